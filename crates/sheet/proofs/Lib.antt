@@ -1,0 +1,7 @@
+pub mod Faults
+pub mod ReadingLaws
+pub mod ShowingLaws
+pub mod WritingLaws
+pub mod RoundTrip
+pub mod RefusalFields
+pub mod Determined

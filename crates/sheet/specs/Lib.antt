@@ -1,0 +1,6 @@
+pub mod Refusals
+pub mod Layout
+pub mod Ranges
+pub mod Reading
+pub mod Showing
+pub mod Writing
