@@ -1,0 +1,15 @@
+pub mod Runs
+pub mod ShapeFacts
+pub mod Pointwise
+pub mod Taking
+pub mod Running
+pub mod Kept
+pub mod Working
+pub mod Determined
+pub mod Standings
+pub mod Ranging
+pub mod Checking
+pub mod Rows
+pub mod Gathering
+pub mod Turning
+pub mod Answers
