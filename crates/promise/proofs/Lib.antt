@@ -1,0 +1,8 @@
+pub mod Observed
+pub mod Steps
+pub mod Reached
+pub mod Kept
+pub mod Sound
+pub mod Acceptance
+pub mod Promised
+pub mod ExamplesHold
