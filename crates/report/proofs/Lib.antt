@@ -1,0 +1,4 @@
+pub mod ReportLaws
+pub mod Determined
+pub mod ExamplesHold
+pub mod Fits

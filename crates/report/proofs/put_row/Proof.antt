@@ -1,0 +1,51 @@
+use mathlib.Core.List.{append-assoc}
+use Rattle.report.specs.Report.{rowLine}
+use Rattle.text.proofs.PuttingLaws.{puts-then}
+use borrow.Author.Needs.{needs}
+use Rattle.report.proofs.put_row.Statement.{statement}
+use Rattle.report.proofs.put_row.Tie as tie
+
+put-field-requires : tie.Need-put-field-requires
+put-field-requires c κs = search needs
+
+cast-put-field : tie.Need-cast-put-field
+cast-put-field c = search needs
+
+put-field-requires-2 : tie.Need-put-field-requires-2
+put-field-requires-2 c κs = search needs
+
+put-field-requires-3 : tie.Need-put-field-requires-3
+put-field-requires-3 c κs = search needs
+
+cast-put-field-2 : tie.Need-cast-put-field-2
+cast-put-field-2 c = search needs
+
+put-field-requires-4 : tie.Need-put-field-requires-4
+put-field-requires-4 c κs = search needs
+
+same-length : tie.Need-same-length
+same-length c = search needs
+
+returns : tie.Need-returns
+unfolding rowLine
+returns c =
+    let processor = c .before .before .before .before .before .before .before .before .before .before .before in
+    simp append-assoc at
+    (puts-then
+    (processor .before .before .before .before .before .put-field .ensures)
+    (puts-then
+    (processor .put-field2 .ensures)
+    (puts-then (c .before .before .before .before .before .before .before .put-field3 .ensures) (c .before .before .put-field4 .ensures))))
+
+pub put-row-spec : {M : Type 1} → statement M
+put-row-spec =
+    tie.close
+    (tie.spec
+    put-field-requires
+    cast-put-field
+    put-field-requires-2
+    put-field-requires-3
+    cast-put-field-2
+    put-field-requires-4
+    same-length
+    returns)

@@ -1,0 +1,3 @@
+pub mod PuttingLaws
+pub mod DecimalLaws
+pub mod Determined
