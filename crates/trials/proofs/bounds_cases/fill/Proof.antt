@@ -1,0 +1,61 @@
+-- `trials::bounds_cases::fill` is safe and ends. The length stays, and the measure is what is left of it.
+-- Assumes nothing.
+use borrow.Author.Needs.{needs}
+use Prim.Native.Nat.{_-_}
+use mathlib.Core.Path.{_≡_}
+use lib.ListN.{length}
+use Rattle.trials.proofs.bounds_cases.fill.Statement.{statement}
+use Rattle.trials.proofs.bounds_cases.fill.Tie as tie
+
+abbrev Inv-loop : tie.InvT-loop
+Inv-loop places₀ i₀ places i = length places ≡ length places₀
+
+abbrev μ-loop : tie.MeasureT-loop
+μ-loop places₀ i₀ places i = length places₀ - i
+
+loop-holds : tie.Need-loop-holds Inv-loop μ-loop
+loop-holds c = search needs
+
+add-places : tie.Need-add-places Inv-loop μ-loop
+add-places c = search needs
+
+cast-places : tie.Need-cast-places Inv-loop μ-loop
+cast-places c = search needs
+
+mul-places : tie.Need-mul-places Inv-loop μ-loop
+mul-places c = search needs
+
+slice-write-places : tie.Need-slice-write-places Inv-loop μ-loop
+slice-write-places c = search needs
+
+add-i : tie.Need-add-i Inv-loop μ-loop
+add-i c = search needs
+
+loop-less : tie.Need-loop-less Inv-loop μ-loop
+loop-less c = search needs
+
+loop-again : tie.Need-loop-again Inv-loop μ-loop
+loop-again c = search needs
+
+same-length : tie.Need-same-length Inv-loop μ-loop
+same-length c = search needs
+
+returns : tie.Need-returns Inv-loop μ-loop
+returns c = search needs
+
+pub fill-spec : {M : Type 1} → statement M
+fill-spec =
+    tie.close
+    (tie.spec
+    Inv-loop
+    μ-loop
+    loop-holds
+    add-places
+    cast-places
+    mul-places
+    slice-write-places
+    add-i
+    loop-less
+    loop-again
+    same-length
+    returns)
