@@ -1,0 +1,150 @@
+/* The analysis in plain C: the same algorithm on the same columns. With COUNT it counts what it does. */
+#include "bench.h"
+
+enum { VERSION_READ = 1, HEADER = 5, RECORD = 18, MOST_ROWS = 32, OWN = 32, MOST_TICKS = 1000000, LIMIT = 4000000 };
+
+enum { CUT = 1, VERSION, LENGTH, COUNTS, LENGTH_BYTE, PROCESSOR, PERIOD, DEADLINE, PHASES, BUSY, LATE, ROOM };
+
+typedef struct {
+  u8 processor;
+  u32 memory, computation, period, deadline;
+} Row;
+
+typedef struct {
+  usize count;
+  Row rows[MOST_ROWS];
+} Set;
+
+/* A weight, a period and a lead in each place: from 0 the rows of higher-ranked processors, from OWN the higher rows of
+   the own processor. */
+typedef struct {
+  u32 weight[64], period[64], lead[64];
+} Columns;
+
+#ifdef COUNT
+u64 instances_worked, terms_worked;
+#define analyse count_analyse
+#define INSTANCE instances_worked++
+#define TERMS(n) terms_worked += (n)
+#else
+#define analyse c_analyse
+#define INSTANCE (void)0
+#define TERMS(n) (void)0
+#endif
+
+static u32 word(const u8 *s) { return (u32)s[0] << 24 | (u32)s[1] << 16 | (u32)s[2] << 8 | s[3]; }
+
+static u32 row_fault(u8 processors, u8 before, const Row *r) {
+  if (r->processor >= processors || r->processor < before) return PROCESSOR;
+  if (r->period == 0 || r->period > MOST_TICKS) return PERIOD;
+  if (r->deadline == 0 || r->deadline > r->period) return DEADLINE;
+  if (r->memory > MOST_TICKS || r->computation > MOST_TICKS || (r->memory | r->computation) == 0) return PHASES;
+  return 0;
+}
+
+static u8 read_sheet(const u8 *s, usize length, Set *set, usize *row) {
+  *row = 0;
+  if (length < HEADER) return CUT;
+  if (s[0] != VERSION_READ) return VERSION;
+  usize stated = (usize)s[1] << 8 | s[2], count = s[4];
+  if (stated != length || stated != HEADER + RECORD * count) return LENGTH;
+  if (s[3] == 0 || s[3] > 8 || count > MOST_ROWS) return COUNTS;
+  u8 before = 0;
+  for (usize i = 0; i < count; i++) {
+    const u8 *at = s + HEADER + RECORD * i;
+    Row *r = &set->rows[i];
+    *row = i;
+    if (at[0] != 17) return LENGTH_BYTE;
+    *r = (Row){at[1], word(at + 2), word(at + 6), word(at + 10), word(at + 14)};
+    u32 fault = row_fault(s[3], before, r);
+    if (fault) return fault;
+    before = r->processor;
+  }
+  set->count = count;
+  *row = 0;
+  return 0;
+}
+
+static inline u64 demand(const Columns *k, usize first, usize count, u32 x) {
+  u64 sum = 0;
+  TERMS(count);
+  for (usize j = first; j < first + count; j++) sum += (u64)((x + k->lead[j]) / k->period[j]) * k->weight[j];
+  return sum;
+}
+
+/* The busy length; 0 where there is none within the limit. */
+static u32 busy_length(const Columns *k, usize ranked, usize higher, const Row *r, u32 blocked) {
+  u32 length = r->memory + r->computation, period = r->period;
+  u64 x = 1;
+  while (x <= LIMIT) {
+    TERMS(1);
+    u64 y = blocked + demand(k, OWN, higher, x - 1) + (u64)(((u32)x - 1) / period + 1) * length + demand(k, 0, ranked, x);
+    if (y == x) return x;
+    x = y;
+  }
+  return 0;
+}
+
+static inline u32 memory_end(const Columns *k, usize ranked, usize higher, const Row *r, u64 fixed, u32 x) {
+  u64 work, y;
+  for (;; x = y) {
+    work = fixed + demand(k, OWN, higher, x);
+    y = work + demand(k, 0, ranked, x);
+    if (y == x) break;
+  }
+  if (r->memory == 0) return x;
+  work += r->memory;
+  for (x += r->memory;; x = y) {
+    y = work + demand(k, 0, ranked, x);
+    if (y == x) return x;
+  }
+}
+
+/* The first late instance, or -1 and the largest response. */
+static u32 judge(const Columns *k, usize ranked, usize higher, const Row *r, u32 blocked, u32 busy, u32 *best) {
+  u32 period = r->period, n = (busy + period - 1) / period, from = 0, most = 0;
+  u64 length = (u64)r->memory + r->computation;
+  for (u32 q = 0; q < n; q++) {
+    INSTANCE;
+    u32 finish = memory_end(k, ranked, higher, r, blocked + q * length, from) + r->computation;
+    u32 response = finish - q * period;
+    if (response > r->deadline) return q;
+    if (response > most) most = response;
+    from = finish;
+  }
+  *best = most;
+  return -1u;
+}
+
+void analyse(const u8 *sheet, usize length, u32 *out, usize places, u8 *number, usize *row, u32 *instance) {
+  Set set;
+  *instance = 0;
+  if ((*number = read_sheet(sheet, length, &set, row))) return;
+  usize n = set.count;
+  if (places < n) { *number = ROOM; return; }
+  u32 blocked[MOST_ROWS], bounds[MOST_ROWS];
+  for (usize i = n; i-- > 0;) {
+    const Row *lower = &set.rows[i + 1];
+    blocked[i] = 0;
+    if (i + 1 == n || lower->processor != set.rows[i].processor) continue;
+    u32 e = lower->memory + lower->computation;
+    blocked[i] = blocked[i + 1] > e ? blocked[i + 1] : e;
+  }
+  Columns k;
+  usize ranked = 0, pending = 0, first = 0;
+  for (usize i = 0; i < n; i++) {
+    const Row *r = &set.rows[i];
+    if (i > 0 && r->processor != set.rows[i - 1].processor) { ranked = pending; first = i; }
+    u32 busy = busy_length(&k, ranked, i - first, r, blocked[i]);
+    if (busy == 0) { *number = BUSY; *row = i; return; }
+    u32 late = judge(&k, ranked, i - first, r, blocked[i], busy, &bounds[i]);
+    if (late != -1u) { *number = LATE; *row = i; *instance = late; return; }
+    u32 e = r->memory + r->computation;
+    usize own = OWN + i - first;
+    k.weight[own] = e, k.period[own] = r->period, k.lead[own] = r->period;
+    if (r->memory == 0) continue;
+    k.weight[pending] = r->memory, k.period[pending] = r->period, k.lead[pending] = bounds[i] - e + r->period - 1;
+    pending++;
+  }
+  for (usize i = 0; i < n; i++) out[i] = bounds[i];
+}
