@@ -28,8 +28,8 @@ startReading r = record { state = pick (accepts (r .refusal)) (startSet (r .set)
 unfoldable pub startOf : List ℕ → Started
 startOf sheet = startReading (readSheet sheet)
 
--- The row has been released before, less than T ticks ago. A difference below zero counts as 0 here, which 01's does not; under
--- the shape, which is tested before, the last release is at most the clock and the two agree.
+-- The row has been released before, less than T ticks ago. A difference below zero counts as 0 here, which the paper's does not;
+-- under the shape, which is tested before, the last release is at most the clock and the two agree.
 unfoldable pub tooEarly : State → ℕ → Bool
 tooEarly s i = jobAt s i .ever && ltb (s .clock - jobAt s i .last) (rowAt s i .period)
 

@@ -1,4 +1,4 @@
--- The right sides of 01's equations for row i. B, the blocking, may be any number.
+-- The right sides of the paper's equations for row i. B, the blocking, may be any number.
 use Prim.Native.Nat.{ℕ, _+_, _-_, _*_, _/_}
 use Rattle.laws.specs.Rounding.{up}
 use Rattle.theory.specs.System.{System, work, sumAbove, sumHigher}

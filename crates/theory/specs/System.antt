@@ -14,7 +14,7 @@ pub record System : Type 0 where
   pub period : ℕ → ℕ
   pub bound : ℕ → ℕ
 
--- 01's e: all that a job of the row has to do
+-- The paper's e: all that a job of the row has to do
 abbrev pub work : System → ℕ → ℕ
 work sys j = sys .memory j + sys .computation j
 
