@@ -5,6 +5,8 @@ A case is: its kind (1 byte, a letter), the length of its payload (3 bytes), a n
 bytes. Every case prints one line. The input ends at the first case that is not whole.
 """
 
+import sys
+
 
 def case(kind, payload, zeros=0):
     return kind.encode() + len(payload).to_bytes(3, "big") + zeros.to_bytes(3, "big") + payload
@@ -24,6 +26,13 @@ def cases_of(data):
 def write_file(path, data):
     with open(path, "wb") as file:
         file.write(data)
+
+
+def make_file(make, dice):
+    """The command of each make_*_cases.py: STDIN [SEED]. Without a seed the cases are the ones that are kept."""
+    if len(sys.argv) > 2:
+        dice.state = int(sys.argv[2])
+    write_file(sys.argv[1], make())
 
 
 def read_file(path):

@@ -1,4 +1,4 @@
-"""make_board_cases.py STDIN: the cases of the trials of the board (cases.py has their outer form).
+"""make_board_cases.py STDIN [SEED]: the cases of the trials of the board (cases.py has their outer form).
 
   P  a sheet's length (2 bytes), the sheet, and commands (play.py has them). The board is started
      with the sheet and the commands are carried out. Prints the start's refusal and the digest.
@@ -8,10 +8,8 @@ A line begins with the case's kind. A refusal is printed as number, row, instanc
 hexadecimal digits; the rest decimal; each after a single space. No input is over 4,096 bytes.
 """
 
-import sys
-
 from board import ABSENT, COMPUTATION, LAST_CLOCK, MEMORY, WAITING, ZERO_STATE, Job, has_shape
-from cases import case, write_file
+from cases import case, make_file
 from dice import Dice
 from examples import A, J, SHEETS, set_with, sheet_with
 from play import NO_HAND, Play
@@ -313,4 +311,4 @@ def make():
 
 
 if __name__ == "__main__":
-    write_file(sys.argv[1], make())
+    make_file(make, dice)

@@ -1,4 +1,4 @@
-"""make_bounds_cases.py STDIN: the cases of the trials of the bounds (cases.py has their outer form).
+"""make_bounds_cases.py STDIN [SEED]: the cases of the trials of the bounds (cases.py has their outer form).
 
   A  a number of places (2 bytes, at most 64) and a sheet. Place i of the lent places holds
      4,000,000,000 + i before the sheet is analysed. Prints the refusal and the digest of all places.
@@ -7,10 +7,8 @@ A line begins with the case's kind. A refusal is printed as number, row, instanc
 hexadecimal digits; the rest decimal; each after a single space. dice.py has the digest.
 """
 
-import sys
-
 from analysis import bounds_of
-from cases import case, write_file
+from cases import case, make_file
 from dice import Dice
 from examples import SHEETS, sheet_with
 from sheet import read
@@ -244,4 +242,4 @@ def make():
 
 
 if __name__ == "__main__":
-    write_file(sys.argv[1], make())
+    make_file(make, dice)

@@ -1,4 +1,4 @@
-"""make_sheet_cases.py STDIN: the cases of the trials of the sheet (cases.py has their outer form).
+"""make_sheet_cases.py STDIN [SEED]: the cases of the trials of the sheet (cases.py has their outer form).
 
 Every number in an input is big-endian; a row is 17 bytes as in a sheet: processor, m, c, T, D.
   R  a sheet. Prints refusal, N, n, digest of all 5 x 32 fields of the set's rows in order.
@@ -13,9 +13,7 @@ A line begins with the case's kind. A refusal is printed as number, row, instanc
 hexadecimal digits; the rest decimal; each after a single space. dice.py has the digest.
 """
 
-import sys
-
-from cases import case, write_file
+from cases import case, make_file
 from dice import Dice
 from examples import SHEETS, A
 from sheet import read
@@ -358,4 +356,4 @@ def make():
 
 
 if __name__ == "__main__":
-    write_file(sys.argv[1], make())
+    make_file(make, dice)

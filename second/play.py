@@ -83,6 +83,18 @@ def poked(state, field, index, value):
     return state._replace(jobs=changed(state.jobs, i, job))
 
 
+def commands_of(data):
+    """Each command's letter and the bytes of its numbers."""
+    at = 0
+    while at < len(data):
+        letter = chr(data[at])
+        length = LENGTHS.get(letter)
+        part = data[at + 1 : at + 1 + (length or 0)]
+        if length is not None and len(part) == length:
+            yield letter, part
+        at += 1 + (length or 0)
+
+
 class Play:
     """A board under commands. `told` gathers what each answer says, `digest` all numbers."""
 
@@ -123,11 +135,5 @@ class Play:
             self.fold(numbers_of_state(self.state))
 
     def run(self, commands):
-        at = 0
-        while at < len(commands):
-            letter = chr(commands[at])
-            length = LENGTHS.get(letter)
-            part = commands[at + 1 : at + 1 + (length or 0)]
-            if length is not None and len(part) == length:
-                self.do(letter, part)
-            at += 1 + (length or 0)
+        for letter, part in commands_of(commands):
+            self.do(letter, part)
