@@ -2,7 +2,7 @@
 
 Each round has its own seed, from SEED on. It makes every kind of case that the kept trials have, runs them in the program
 trials and compares each line with the one expected. Prints each case whose lines differ and, at the end, how many of
-each kind were compared; the status is 0 where none differs. A round takes about a minute.
+each kind were compared; the status is 0 where none differs. A round takes about half a minute.
 """
 
 import collections
