@@ -14,9 +14,11 @@ use Rattle.analysis.specs.Equations.{busyAt, busyLength, startAt, start, endAt,
 use Rattle.analysis.specs.Bounds.{sumOver, largestOver, blocking, tokenTaken, equationsOf, rowAfter, worked, analyseSet}
 use Rattle.analysis.specs.Analysis.{readingRefusal, readingBounds, analyseRefusal, analysed}
 use Rattle.text.specs.Decimal.{decimalIn, decimal}
-use Rattle.report.specs.Report.{refusedLine, acceptedLine, rowLine, rowLines, acceptedText, reportOf}
+use Rattle.text.specs.Lines.{linesTo}
+use Rattle.text.specs.Refusing.{refusedLine}
+use Rattle.report.specs.Report.{acceptedLine, rowLine, acceptedText, reportOf}
 use Rattle.report.specs.Examples.{Printed}
 
 pub printed : Printed
-unfolding reportOf acceptedText rowLines rowLine acceptedLine refusedLine decimal decimalIn analysed analyseRefusal readingBounds readingRefusal analyseSet worked rowAfter verdictOf judged response memoryEnd endAt start startAt busyLength busyAt equationsOf tokenTaken blocking largestOver sumOver sumWhere sumTo maxTo least solutionFrom firstFrom readSheet setOf readRefusal recordFault headerFault firstFault rowAt rowOf wordAt sheetOf tabFrom firstOf
+unfolding reportOf acceptedText linesTo rowLine acceptedLine refusedLine decimal decimalIn analysed analyseRefusal readingBounds readingRefusal analyseSet worked rowAfter verdictOf judged response memoryEnd endAt start startAt busyLength busyAt equationsOf tokenTaken blocking largestOver sumOver sumWhere sumTo maxTo least solutionFrom firstFrom readSheet setOf readRefusal recordFault headerFault firstFault rowAt rowOf wordAt sheetOf tabFrom firstOf
 printed = record { for-A = refl; for-C6 = refl }

@@ -1,19 +1,11 @@
 // What is printed for a sheet: its bounds, or the refusal.
 ghost use Prim.Native.Nat.{_≤_};
 ghost use Rattle.sheet.specs.Ranges.{mostRows, rowIn};
+ghost use Rattle.text.specs.Lines.{linesTo};
 ghost use Rattle.text.specs.Putting.{Puts};
-ghost use Rattle.report.specs.Report.{refusedLine, rowLine, rowLines, acceptedText, reportOf};
+ghost use Rattle.report.specs.Report.{rowLine, lineOf, acceptedText, reportOf};
 
 const MOST_ROWS: usize = 32;
-
-fn put_refusal(out: &mut [u8], end: usize, refusal: sheet::Refusal) -> usize
-    ensures { λ r. ⌜ Puts (refusedLine refusal) (now (out .entry)) end (now (out .exit)) r ⌝ }
-{
-    let end = text::put(out, end, b"refused ");
-    let end = text::put_field(out, end, refusal.number as u64, b' ');
-    let end = text::put_field(out, end, refusal.row as u64, b' ');
-    text::put_field(out, end, refusal.instance as u64, b'\n')
-}
 
 fn put_row(out: &mut [u8], end: usize, i: usize, row: sheet::Row, bound: u32) -> usize
     ensures { λ r. ⌜ Puts (rowLine i row bound) (now (out .entry)) end (now (out .exit)) r ⌝ }
@@ -26,7 +18,7 @@ fn put_row(out: &mut [u8], end: usize, i: usize, row: sheet::Row, bound: u32) ->
 
 fn put_rows(out: &mut [u8], end: usize, set: sheet::Set, bounds: &[u32; 32]) -> usize
     requires { ⌜ set .count ≤ mostRows ⌝ }
-    ensures { λ r. ⌜ Puts (rowLines (rowIn set) (now (bounds .entry)) (set .count)) (now (out .entry)) end (now (out .exit)) r ⌝ }
+    ensures { λ r. ⌜ Puts (linesTo (lineOf (rowIn set) (now (bounds .entry))) (set .count)) (now (out .entry)) end (now (out .exit)) r ⌝ }
 {
     let count = set.count;
     let rows = set.rows;
@@ -56,7 +48,7 @@ pub fn report(sheet: &[u8], out: &mut [u8]) -> usize
     let mut bounds = [0u32; MOST_ROWS];
     let refusal = analysis::analyse(sheet, &mut bounds);
     if refusal.number != sheet::refusals::ACCEPTED {
-        return put_refusal(out, 0, refusal);
+        return text::put_refusal(out, 0, refusal);
     }
     let reading = sheet::read(sheet);
     put_accepted(out, 0, reading.set, &bounds)

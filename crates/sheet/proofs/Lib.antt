@@ -4,4 +4,5 @@ pub mod ShowingLaws
 pub mod WritingLaws
 pub mod RoundTrip
 pub mod RefusalFields
+pub mod SmallRefusals
 pub mod Determined

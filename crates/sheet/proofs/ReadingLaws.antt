@@ -3,6 +3,7 @@ use mathlib.Core.Path.{_≡_, refl, sym, ap, _∙_}
 use mathlib.Core.List.{List}
 use Prim.Native.Nat.{ℕ, zero, suc, _+_, _-_, _<_, _≤_}
 use native.Mathlib.Omega.{arith}
+use native.Mathlib.Decide.{ℕ-discrete}
 use lib.ListN.{length, take, drop, length-take, length-drop}
 use borrow.Author.Tests.{ltb-false, eqb-true, not-false, eq-eqb, ne-eqb}
 use Rattle.laws.specs.Choice.{firstOf}
@@ -10,10 +11,11 @@ use Rattle.laws.specs.ChoiceLaws.{past}
 use Rattle.laws.specs.TabulateLaws.{padded-at, padded-rest}
 use Rattle.sheet.specs.Refusals.{refused, accepted}
 use Rattle.sheet.specs.Layout.{versionOf, statedLength, processorsOf, countOf, lengthFor, lengthByte, recordStart, rowStart, rowAt}
-use Rattle.sheet.specs.Ranges.{rowFault, before, firstFault, zeroRow, zeroSet, rowIn, InRange, WellFormed}
+use Rattle.sheet.specs.Ranges.{mostRows, rowFault, before, firstFault, zeroRow, zeroSet, rowIn, InRange, WellFormed}
 use Rattle.sheet.specs.Reading.{headerFault, recordFault, readRefusal, setOf, readSheet, rowOfPart}
 use Rattle.sheet.specs.declared.Row.{Row}
 use Rattle.sheet.specs.declared.Refusal.{Refusal}
+use Rattle.sheet.specs.declared.Reading.{Reading}
 use Rattle.sheet.proofs.Faults as faults
 
 -- What a header without a fault says.
@@ -135,3 +137,12 @@ record-refused s i k h c l e z = sym (faults.or-second _ _ h ∙ faults.clear-st
 pub none-refused : (s : List ℕ) (i : ℕ) → headerFault s ≡ 0 → faults.Clear (recordFault s) (countOf s) i → countOf s ≤ i → accepted ≡ readRefusal s
 unfolding readRefusal
 none-refused s i h c l = sym (faults.or-second _ _ h ∙ faults.clear-all (recordFault s) (countOf s) i c l)
+
+-- Whatever the sheet, there are at most 32 rows in what was read.
+pub rows-most : (s : List ℕ) → readSheet s .set .count ≤ mostRows
+unfolding setOf
+rows-most s = go (ℕ-discrete (readRefusal s .number) 0)
+  where
+    go : Dec (readRefusal s .number ≡ 0) → readSheet s .set .count ≤ mostRows
+    go (yes e) = omega (arith, ap (λ (r : Reading). r .set .count) (read-accepted s (readRefusal s) refl e), reads s e .head .rows)
+    go (no n) = omega (arith, ap (λ (r : Reading). r .set .count) (read-refused s (readRefusal s) refl n))

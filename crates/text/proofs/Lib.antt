@@ -1,3 +1,4 @@
 pub mod PuttingLaws
 pub mod DecimalLaws
+pub mod Lengths
 pub mod Determined

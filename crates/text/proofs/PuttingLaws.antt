@@ -8,6 +8,7 @@ use native.Mathlib.Numerals.{add-one}
 use lib.ListN.{length, getD, take, drop, set, take-append-drop, length-append, length-take, length-drop, drop-of-length-le}
 use lib.Seq.{take-all, take-suc, take-nil, take-append-le, take-append-add, take-append-seam, drop-append-add, drop-drop, set-split}
 use Rattle.text.specs.Putting.{withText, endAfter, Puts}
+use Rattle.text.specs.Lines.{linesTo}
 
 -- From a place past the buffer's end nothing fits.
 full : (b : List ℕ) (e : ℕ) (t : List ℕ) → length b ≤ e → withText b e t ≡ b
@@ -108,3 +109,13 @@ puts-within {t} {b} {b′} {e} p h = omega (arith, p .end-is, puts-length p)
 pub puts-next : (t : List ℕ) (i : ℕ) {b₀ b₁ b₂ : List ℕ} {e₀ e₁ e₂ : ℕ} → i < length t
     → Puts (take i t) b₀ e₀ b₁ e₁ → Puts (getD t i 0 ∷ []) b₁ e₁ b₂ e₂ → Puts (take (i + 1) t) b₀ e₀ b₂ e₂
 puts-next t i h p q = rw (add-one i, take-suc t i 0 h) (puts-then p q)
+
+-- A loop puts lines one after the other.
+module _ (lineOf : ℕ → List ℕ) where
+  pub lines-none : (b : List ℕ) (e : ℕ) → Puts (linesTo lineOf 0) b e b e
+  unfolding linesTo
+  lines-none b e = puts-none b e
+
+  pub lines-more : (i : ℕ) {b₀ b₁ b₂ : List ℕ} {e₀ e₁ e₂ : ℕ} → Puts (linesTo lineOf i) b₀ e₀ b₁ e₁ → Puts (lineOf i) b₁ e₁ b₂ e₂ → Puts (linesTo lineOf (i + 1)) b₀ e₀ b₂ e₂
+  unfolding linesTo
+  lines-more i p q = rw (add-one i) (puts-then p q)

@@ -2,3 +2,4 @@ pub mod Ascii
 pub mod Lines
 pub mod Decimal
 pub mod Putting
+pub mod Refusing

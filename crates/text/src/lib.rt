@@ -3,6 +3,7 @@
 ghost use mathlib.Core.List.{[], _∷_, _++_};
 ghost use Rattle.text.specs.Decimal.{decimal};
 ghost use Rattle.text.specs.Putting.{Puts};
+ghost use Rattle.text.specs.Refusing.{refusedLine};
 
 const MOST_DIGITS: usize = 20;
 
@@ -42,4 +43,13 @@ pub fn put_field(buffer: &mut [u8], end: usize, number: u64, mark: u8) -> usize
 {
     let end = put_number(buffer, end, number);
     put_byte(buffer, end, mark)
+}
+
+pub fn put_refusal(buffer: &mut [u8], end: usize, refusal: sheet::Refusal) -> usize
+    ensures { λ r. ⌜ Puts (refusedLine refusal) (now (buffer .entry)) end (now (buffer .exit)) r ⌝ }
+{
+    let end = put(buffer, end, b"refused ");
+    let end = put_field(buffer, end, refusal.number as u64, b' ');
+    let end = put_field(buffer, end, refusal.row as u64, b' ');
+    put_field(buffer, end, refusal.instance as u64, b'\n')
 }

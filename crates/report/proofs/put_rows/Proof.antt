@@ -6,10 +6,10 @@ use mathlib.Core.List.{List}
 use lib.ListN.{getD}
 use Rattle.sheet.specs.declared.Row.{Row}
 use Rattle.sheet.specs.Ranges as ranges
+use Rattle.text.specs.Lines.{linesTo}
 use Rattle.text.specs.Putting.{Puts}
-use Rattle.text.proofs.PuttingLaws.{puts-length}
+use Rattle.text.proofs.PuttingLaws.{puts-length, lines-none, lines-more}
 use Rattle.report.specs.Report as spec
-use Rattle.report.proofs.ReportLaws as laws
 use Rattle.report.proofs.put_rows.Statement.{statement}
 use Rattle.report.proofs.put_rows.Tie as tie
 
@@ -20,7 +20,7 @@ rowOf rows i = getD rows i ranges.zeroRow
 record Going (count : ℕ) (rows : List Row) (bounds out₀ : List ℕ) (end : ℕ) (out : List ℕ) (at i : ℕ) : Type 0 where
   few : count ≤ ranges.mostRows
   within : i ≤ count
-  put : Puts (spec.rowLines (rowOf rows) bounds i) out₀ end out at
+  put : Puts (linesTo (spec.lineOf (rowOf rows) bounds) i) out₀ end out at
 
 abbrev Inv-loop : tie.InvT-loop
 Inv-loop out₀ end bounds count rows at₀ i₀ out at i = Going count rows bounds out₀ end out at i
@@ -29,7 +29,7 @@ abbrev μ-loop : tie.MeasureT-loop
 μ-loop out₀ end bounds count rows at₀ i₀ out at i = count - i
 
 loop-holds : tie.Need-loop-holds Inv-loop μ-loop
-loop-holds c = record { few = c .before .before .pre; within = omega arith; put = laws.lines-none _ _ _ _ }
+loop-holds c = record { few = c .before .before .pre; within = omega arith; put = lines-none _ _ _ }
 
 mul-put-row : tie.Need-mul-put-row Inv-loop μ-loop
 mul-put-row c = omega arith
@@ -55,7 +55,7 @@ loop-less c = omega arith
 loop-again : tie.Need-loop-again Inv-loop μ-loop
 loop-again c =
     let g = c .before .before .before .before .before .before .before .loop .inv in
-    record { few = g .few; within = omega arith; put = laws.lines-more _ _ _ (g .put) (c .before .before .put-row .ensures) }
+    record { few = g .few; within = omega arith; put = lines-more _ _ (g .put) (c .before .before .put-row .ensures) }
 
 same-length : tie.Need-same-length Inv-loop μ-loop
 same-length c = puts-length (c .before .loop .inv .put)

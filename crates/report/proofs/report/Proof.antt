@@ -2,7 +2,8 @@ use mathlib.Core.Path.{_≡_, ap, subst}
 use mathlib.Core.List.{List}
 use Prim.Native.Nat.{ℕ, _≤_}
 use Rattle.sheet.specs.declared.Reading.{Reading}
-use Rattle.report.proofs.ReportLaws.{rows-most, report-refused, report-accepted}
+use Rattle.sheet.proofs.ReadingLaws.{rows-most}
+use Rattle.report.proofs.ReportLaws.{report-refused, report-accepted}
 use borrow.Author.Needs.{needs}
 use Rattle.report.proofs.report.Statement.{statement}
 use Rattle.report.proofs.report.Tie as tie

@@ -1,9 +1,9 @@
 use mathlib.Core.List.{append-assoc}
-use Rattle.report.specs.Report.{refusedLine}
+use Rattle.text.specs.Refusing.{refusedLine}
 use Rattle.text.proofs.PuttingLaws.{puts-then}
 use borrow.Author.Needs.{needs}
-use Rattle.report.proofs.put_refusal.Statement.{statement}
-use Rattle.report.proofs.put_refusal.Tie as tie
+use Rattle.text.proofs.put_refusal.Statement.{statement}
+use Rattle.text.proofs.put_refusal.Tie as tie
 
 slice-aggregate-put : tie.Need-slice-aggregate-put
 slice-aggregate-put c = search needs
