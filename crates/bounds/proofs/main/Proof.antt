@@ -15,8 +15,8 @@ slice-aggregate-read-input c = search needs
 read-input-requires : tie.Need-read-input-requires
 read-input-requires c κs = search needs
 
-text-buffer-requires : tie.Need-text-buffer-requires
-text-buffer-requires c κs = search needs
+buffer-requires : tie.Need-buffer-requires
+buffer-requires c κs = search needs
 
 array-share-prefix-input : tie.Need-array-share-prefix-input
 array-share-prefix-input c = search needs
@@ -49,7 +49,7 @@ main-spec =
     large-buffer-requires
     slice-aggregate-read-input
     read-input-requires
-    text-buffer-requires
+    buffer-requires
     array-share-prefix-input
     slice-aggregate-report
     slice-aggregate-report-2
