@@ -1,0 +1,13 @@
+pub mod WordLaws
+pub mod NumberLaws
+pub mod LineLaws
+pub mod MeaningLaws
+pub mod RowsLaws
+pub mod TextLaws
+pub mod WordsOfLines
+pub mod DecimalWords
+pub mod PlainLines
+pub mod ListingLaws
+pub mod RoundTrip
+pub mod Fits
+pub mod Determined

@@ -1,0 +1,5 @@
+pub mod Faults
+pub mod Words
+pub mod Meaning
+pub mod Composing
+pub mod Listing

@@ -1,0 +1,145 @@
+-- What a text says: a set, or the first fault.
+use Prim.Native.Nat.{ℕ, zero, suc, _+_, _<_, _≤_, _-_}
+use mathlib.Core.Path.{_≡_}
+use mathlib.Core.Bool.{Bool, true, false}
+use mathlib.Core.List.{List, [], _∷_}
+use lib.ListN.{length, getD, take, drop, replicate}
+use lib.Dec.{eqb, ltb}
+use Rattle.laws.specs.Choice.{pick}
+use Rattle.laws.specs.Tabulate.{padded}
+use Rattle.sheet.specs.declared.Row.{Row}
+use Rattle.sheet.specs.declared.Set.{Set}
+use Rattle.sheet.specs.Ranges.{mostRows, zeroRow, zeroSet}
+use Rattle.text.specs.Ascii.{ascii}
+use Rattle.sheet_text.specs.Faults.{LONG, FIRST, MANY, ROWS, faultAt, noFault, orElse}
+use Rattle.sheet_text.specs.Words.{linesOf, contentOf, blanksOf, hasWord, wordOf, wordEnd, afterWord, sameBytes, valueOf, fieldSaid, limit}
+use Rattle.sheet_text.specs.declared.Fault.{Fault}
+use Rattle.sheet_text.specs.declared.Numbers.{Numbers}
+use Rattle.sheet_text.specs.declared.RowSaid.{RowSaid}
+use Rattle.sheet_text.specs.declared.Next.{Next}
+use Rattle.sheet_text.specs.declared.Meaning.{Meaning}
+
+-- A line with words: its number, and what it says.
+pub record Line : Type 0 where
+  pub number : ℕ
+  pub content : List ℕ
+
+abbrev pub lineAt : ℕ → List ℕ → Line
+lineAt n content = record { number = n; content = content }
+
+-- The lines with words, numbered from n on.
+unfoldable pub worded : ℕ → List (List ℕ) → List Line
+worded n [] = []
+worded n (line ∷ lines) =
+    elim (hasWord (contentOf line)) [ true ↦ lineAt n (contentOf line) ∷ worded (suc n) lines | false ↦ worded (suc n) lines ]
+
+-- What is wrong with the numbers that are left of a line, from number k on. What is left begins at a column.
+unfoldable pub numbersFault : ℕ → ℕ → ℕ → ℕ → List ℕ → Fault
+numbersFault zero k line column left = pick (hasWord left) (faultAt MANY line (column + blanksOf left)) noFault
+numbersFault (suc count) k line column left =
+    orElse (faultAt (fieldSaid (limit k) left .fault) line (column + fieldSaid (limit k) left .place))
+    (numbersFault count (suc k) line (column + wordEnd left) (afterWord left))
+
+-- What is left of a line after k words, and number k of it.
+unfoldable pub leftAfter : ℕ → List ℕ → List ℕ
+leftAfter zero line = line
+leftAfter (suc k) line = afterWord (leftAfter k line)
+
+unfoldable pub valueAt : List ℕ → ℕ → ℕ
+valueAt line k = valueOf (wordOf (leftAfter k line))
+
+abbrev pub mostNumbers : ℕ
+mostNumbers = 5
+
+abbrev pub faultyNumbers : Fault → Numbers
+faultyNumbers fault = record { fault = fault; values = replicate mostNumbers 0 }
+
+-- So many numbers and no more stand on what is left of a line.
+unfoldable pub numbersSaid : ℕ → ℕ → ℕ → List ℕ → Numbers
+numbersSaid count line column left =
+    pick (eqb (numbersFault count 0 line column left .number) 0)
+    (record { fault = noFault; values = padded mostNumbers count (valueAt left) 0 })
+    (faultyNumbers (numbersFault count 0 line column left))
+
+-- The first line: `processors` and N.
+unfoldable pub firstLineSaid : ℕ → List ℕ → Numbers
+firstLineSaid n content =
+    pick (sameBytes (wordOf content) (ascii "processors"))
+    (numbersSaid 1 n (wordEnd content + 1) (afterWord content))
+    (faultyNumbers (faultAt FIRST n (blanksOf content + 1)))
+
+-- The row of five numbers.
+abbrev pub rowOf : List ℕ → Row
+rowOf values =
+    record {
+      processor = getD values 0 0;
+      memory = getD values 1 0;
+      computation = getD values 2 0;
+      period = getD values 3 0;
+      deadline = getD values 4 0;
+    }
+
+-- Row k's line.
+unfoldable pub rowNumbers : ℕ → ℕ → List ℕ → Numbers
+rowNumbers k n content =
+    pick (ltb k mostRows)
+    (numbersSaid mostNumbers n 1 content)
+    (faultyNumbers (faultAt ROWS n (blanksOf content + 1)))
+
+unfoldable pub rowSaid : ℕ → ℕ → List ℕ → RowSaid
+rowSaid k n content = record { fault = rowNumbers k n content .fault; row = rowOf (rowNumbers k n content .values) }
+
+-- What is wrong with the lines of row k, row k + 1 and so on.
+unfoldable pub rowsFault : ℕ → List Line → Fault
+rowsFault k [] = noFault
+rowsFault k (l ∷ lines) = orElse (rowSaid k (l .number) (l .content) .fault) (rowsFault (suc k) lines)
+
+abbrev pub noLine : Line
+noLine = lineAt 0 []
+
+abbrev pub rowAt : List Line → ℕ → Row
+rowAt lines k = let l = getD lines k noLine in rowSaid k (l .number) (l .content) .row
+
+abbrev pub meant : Set → Meaning
+meant set = record { fault = noFault; set = set }
+
+abbrev pub meantNothing : Fault → Meaning
+meantNothing fault = record { fault = fault; set = zeroSet }
+
+-- The lines after the first say the rows of a set with N processors.
+unfoldable pub rowsMeant : ℕ → List Line → Meaning
+rowsMeant N lines =
+    pick (eqb (rowsFault 0 lines .number) 0)
+    (meant (record { processors = N; count = length lines; rows = padded mostRows (length lines) (rowAt lines) zeroRow }))
+    (meantNothing (rowsFault 0 lines))
+
+-- The first line, then the rows. A text without words lacks its first line where its last line has ended.
+unfoldable pub pageMeant : ℕ → List Line → Meaning
+pageMeant last [] = meantNothing (faultAt FIRST (1 + last) 1)
+pageMeant last (l ∷ lines) =
+    let first = firstLineSaid (l .number) (l .content) in
+    pick (eqb (first .fault .number) 0) (rowsMeant (getD (first .values) 0 0) lines) (meantNothing (first .fault))
+
+abbrev pub mostBytes : ℕ
+mostBytes = 65535
+
+unfoldable pub meaningOf : List ℕ → Meaning
+meaningOf text =
+    pick (ltb mostBytes (length text)) (meantNothing (faultAt LONG 1 1)) (pageMeant (length (linesOf text)) (worded 1 (linesOf text)))
+
+-- What is left of a text after its lines up to a place, where the next line with words has been looked for.
+abbrev pub contentAt : List ℕ → Next → List ℕ
+contentAt text next = take (next .stop - next .start) (drop (next .start) text)
+
+abbrev pub linesFrom : List ℕ → Next → List Line
+linesFrom text next =
+    pick (next .found) (lineAt (next .number) (contentAt text next) ∷ worded (suc (next .number)) (linesOf (drop (next .after) text))) []
+
+pub record Finds (text : List ℕ) (place number : ℕ) (next : Next) : Type 0 where
+  pub lines : worded number (linesOf (drop place text)) ≡ linesFrom text next
+  pub forth : place ≤ next .start
+  pub start-within : next .found ≡ true → next .start < length text
+  pub content-within : next .found ≡ true → (next .start ≤ next .stop) × (next .stop ≤ length text)
+  pub beyond : next .found ≡ true → (next .start < next .after) × (next .after ≤ suc (length text))
+  pub counted : next .number ≤ number + (next .start - place)
+  pub last : next .found ≡ false → next .number ≡ number + length (linesOf (drop place text))
