@@ -7,6 +7,8 @@ bytes. Every case prints one line. The input ends at the first case that is not 
 
 import sys
 
+PATTERN = 251
+
 
 def case(kind, payload, zeros=0):
     return kind.encode() + len(payload).to_bytes(3, "big") + zeros.to_bytes(3, "big") + payload
@@ -38,3 +40,18 @@ def make_file(make, dice):
 def read_file(path):
     with open(path, "rb") as file:
         return file.read()
+
+
+def expect_file(line_of):
+    """The command of each expect_*.py: STDIN STDOUT. `line_of` gives the line of a kind and an input."""
+    lines = [line_of(kind, data) + "\n" for kind, data in cases_of(read_file(sys.argv[1]))]
+    write_file(sys.argv[2], "".join(lines).encode())
+
+
+def spelt(numbers):
+    return " ".join([str(number) for number in numbers])
+
+
+def lent_buffer(length):
+    """A buffer as the trials lend it: no byte is like its neighbours, so that one out of place shows."""
+    return bytearray([i % PATTERN for i in range(length)])

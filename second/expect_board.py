@@ -1,14 +1,8 @@
 """expect_board.py STDIN STDOUT: what the trials of the board must print (make_board_cases.py has the forms)."""
 
-import sys
-
-from cases import cases_of, read_file, write_file
+from cases import expect_file, spelt
 from play import Play
 from sheet import big
-
-
-def spelt(numbers):
-    return " ".join([str(number) for number in numbers])
 
 
 def line_of(kind, data):
@@ -20,5 +14,4 @@ def line_of(kind, data):
 
 
 if __name__ == "__main__":
-    lines = [line_of(kind, data) + "\n" for kind, data in cases_of(read_file(sys.argv[1]))]
-    write_file(sys.argv[2], "".join(lines).encode())
+    expect_file(line_of)

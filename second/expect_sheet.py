@@ -1,19 +1,12 @@
 """expect_sheet.py STDIN STDOUT: what the trials of the sheet must print (make_sheet_cases.py has the forms)."""
 
-import sys
-
-from cases import cases_of, read_file, write_file
+from cases import expect_file, lent_buffer, spelt
 from dice import digest
-from make_sheet_cases import PATTERN
 from sheet import MOST_ROWS, Set, big, read, row_of, show, write
 
 
 def fields(rows):
     return [number for row in rows for number in row]
-
-
-def spelt(numbers):
-    return " ".join([str(number) for number in numbers])
 
 
 def line_of_read(sheet):
@@ -32,7 +25,7 @@ def line_of_show(payload):
 
 def written(payload):
     rows = [row_of(payload[11 + 17 * k : 28 + 17 * k]) for k in range(MOST_ROWS)]
-    buffer = bytearray([i % PATTERN for i in range(big(payload[:2]))])
+    buffer = lent_buffer(big(payload[:2]))
     refusal = write(Set(payload[2], big(payload[3:11]), tuple(rows)), buffer)
     return refusal, buffer
 
@@ -54,6 +47,10 @@ LINES = {
     "V": line_of_buffer,
 }
 
+
+def line_of(kind, data):
+    return "%s %s" % (kind, LINES[kind](data))
+
+
 if __name__ == "__main__":
-    lines = ["%s %s\n" % (kind, LINES[kind](data)) for kind, data in cases_of(read_file(sys.argv[1]))]
-    write_file(sys.argv[2], "".join(lines).encode())
+    expect_file(line_of)

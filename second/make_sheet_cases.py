@@ -18,7 +18,6 @@ from dice import Dice
 from examples import SHEETS, A
 from sheet import read
 
-PATTERN = 251
 TOP32 = (1 << 32) - 1
 TOP64 = (1 << 64) - 1
 # 18 times the first of these is 16 below 2^64, and the others lie around it.
