@@ -15,10 +15,11 @@ hexadecimal digits; the rest decimal; each after a single space. dice.py has the
 
 from cases import case, make_file
 from dice import Dice
+from drafts import HEAD_FAULTS, ONE_OF_EACH, ROW_FAULTS, TOP32, Draft, bytes_of_row, high_rows, set_row_fault
+from drafts import anything_row, good_draft, good_row, good_rows
 from examples import SHEETS, A
 from sheet import read
 
-TOP32 = (1 << 32) - 1
 TOP64 = (1 << 64) - 1
 # 18 times the first of these is 16 below 2^64, and the others lie around it.
 WRAPPING = [1024819115206086200, 1024819115206086199, 1024819115206086201, 1 << 60]
@@ -32,93 +33,6 @@ def put(kind, payload, zeros=0):
 
 
 # Sheets, fault by fault.
-
-
-class Draft:
-    """A sheet in the making. `stated`, `n` and `lengths` say what the right values would not."""
-
-    def __init__(self, N, rows):
-        self.version, self.stated, self.N, self.n = 1, None, N, None
-        self.rows = [list(row) for row in rows]
-        self.lengths = [17] * len(rows)
-        self.tail = b""
-
-    def bytes(self):
-        n = len(self.rows) if self.n is None else self.n
-        length = 5 + 18 * len(self.rows) + len(self.tail)
-        stated = length if self.stated is None else self.stated
-        data = bytes([self.version]) + (stated & 65535).to_bytes(2, "big") + bytes([self.N, n])
-        for length, row in zip(self.lengths, self.rows):
-            data += bytes([length]) + spelt(row)
-        return data + self.tail
-
-
-def spelt(row):
-    return bytes([row[0]]) + b"".join([number.to_bytes(4, "big") for number in row[1:]])
-
-
-def good_number(most):
-    return dice.one_of([0, 1, most, dice.between(0, most), dice.between(0, min(most, 300))])
-
-
-def good_row(processor):
-    T = max(1, good_number(1_000_000))
-    D = max(1, good_number(T))
-    m, c = good_number(1_000_000), good_number(1_000_000)
-    return [processor, m, c or (1 if m == 0 else 0), T, D]
-
-
-def good_rows(N, n):
-    return [good_row(p) for p in sorted([dice.below(N) for _ in range(n)])]
-
-
-def good_draft(n, N=None):
-    N = N or dice.between(1, 8)
-    return Draft(N, good_rows(N, n))
-
-
-def row_faults(N, before):
-    """The faults 6 to 9 of a row after one on processor `before`: what each makes of the row."""
-    faults = {
-        "processor N": lambda row: [N] + row[1:],
-        "processor 255": lambda row: [255] + row[1:],
-        "period 0": lambda row: row[:3] + [0] + row[4:],
-        "period past": lambda row: row[:3] + [1_000_001] + row[4:],
-        "period top": lambda row: row[:3] + [TOP32] + row[4:],
-        "deadline 0": lambda row: row[:4] + [0],
-        "deadline past": lambda row: row[:4] + [row[3] + 1],
-        "deadline top": lambda row: row[:4] + [TOP32],
-        "phases none": lambda row: row[:1] + [0, 0] + row[3:],
-        "memory past": lambda row: row[:1] + [1_000_001] + row[2:],
-        "memory top": lambda row: row[:1] + [TOP32] + row[2:],
-        "computation past": lambda row: row[:2] + [1_000_001] + row[3:],
-        "computation top": lambda row: row[:2] + [TOP32] + row[3:],
-    }
-    if before > 0:
-        faults["processor falls"] = lambda row: [before - 1] + row[1:]
-    return faults
-
-
-def set_row_fault(draft, r, name):
-    before = draft.rows[r - 1][0] if r > 0 else 0
-    fault = row_faults(draft.N, before).get(name)
-    if fault:
-        draft.rows[r] = fault(draft.rows[r])
-
-
-ROW_FAULTS = sorted(row_faults(1, 1))
-ONE_OF_EACH = ["processor falls", "period past", "deadline past", "phases none"]
-HEAD_FAULTS = {
-    "version": lambda d: setattr(d, "version", 2),
-    "stated": lambda d: setattr(d, "stated", 6 + 18 * len(d.rows)),
-    "tail": lambda d: setattr(d, "tail", b"\0"),
-    "count": lambda d: setattr(d, "N", 0),
-}
-
-
-def high_rows(n):
-    """Rows that leave room for a processor to fall at every place but the first."""
-    return Draft(8, [[min(7, 1 + r // 4), 1 + r, 2 + r, 1000 + r, 900 + r] for r in range(n)])
 
 
 def sheet_examples():
@@ -159,7 +73,7 @@ def lengths():
     for N in range(256):
         for n in (0, 1, 33):
             length = 5 + 18 * n
-            rows = b"".join([b"\x11" + spelt([0, 1, 1, 4, 4]) for _ in range(min(n, 1))])
+            rows = b"".join([b"\x11" + bytes_of_row([0, 1, 1, 4, 4]) for _ in range(min(n, 1))])
             head = bytes([1]) + length.to_bytes(2, "big") + bytes([N, n])
             put("R", head + rows, length - 5 - len(rows))
 
@@ -218,13 +132,13 @@ def limits():
 
 def random_sheets():
     for k in range(400):
-        put("F" if k % 10 == 0 else "R", good_draft(dice.below(33)).bytes())
+        put("F" if k % 10 == 0 else "R", good_draft(dice, dice.below(33)).bytes())
     for _ in range(40):
-        put("R", good_draft(32, 8).bytes())
-        put("R", good_draft(0).bytes())
+        put("R", good_draft(dice, 32, 8).bytes())
+        put("R", good_draft(dice, 0).bytes())
     # One byte altered, a part cut out, or put in.
     for k in range(900):
-        data = bytearray(good_draft(dice.below(4 if k % 9 else 33)).bytes())
+        data = bytearray(good_draft(dice, dice.below(4 if k % 9 else 33)).bytes())
         at = dice.below(len(data))
         data[at] = dice.one_of([0, 1, 255, data[at] ^ (1 << dice.below(8)), dice.below(256)])
         if dice.chance(10):
@@ -264,12 +178,12 @@ def shown_parts():
         for row in (0, 1, TOP64):
             put_shown(sheet, row)
     for n in range(33):
-        sheet = good_draft(n).bytes()
+        sheet = good_draft(dice, n).bytes()
         for row in (0, n // 2, max(n, 1) - 1, n, n + 1):
             put_shown(sheet, row)
     for _ in range(200):
         n = dice.between(1, 5)
-        draft = good_draft(n)
+        draft = good_draft(dice, n)
         row = dice.below(n + 1)
         put_shown(draft.bytes(), row)
         put_shown(draft.bytes(), dice.one_of([n, TOP64, 1 << 63, dice.word()] + WRAPPING))
@@ -281,11 +195,7 @@ def shown_parts():
 
 
 def put_set(kind, room, N, n, rows):
-    put(kind, room.to_bytes(2, "big") + bytes([N]) + n.to_bytes(8, "big") + b"".join(map(spelt, rows)))
-
-
-def anything_row():
-    return [dice.below(256)] + [dice.below(1 << 32) for _ in range(4)]
+    put(kind, room.to_bytes(2, "big") + bytes([N]) + n.to_bytes(8, "big") + b"".join(map(bytes_of_row, rows)))
 
 
 def written_sets():
@@ -295,8 +205,8 @@ def written_sets():
             put_set("V", room, the_set.N, the_set.n, the_set.rows[: the_set.n])
     for n in range(33):
         N = dice.between(1, 8)
-        rows, size = good_rows(N, n), 5 + 18 * n
-        past = [anything_row() for _ in range(32 - n)]
+        rows, size = good_rows(dice, N, n), 5 + 18 * n
+        past = [anything_row(dice) for _ in range(32 - n)]
         for room in (0, size - 1, size, size + 1):
             put_set("W", room, N, n, rows)
         put_set("V" if n % 8 == 0 else "W", 700, N, n, rows + past)
@@ -328,14 +238,14 @@ def sets_no_reader_makes():
                 put_set("W", room, N, n, rows if dice.chance(30) else rows[:2])
     for _ in range(200):
         n = dice.between(1, 5)
-        rows = [dice.one_of([good_row(dice.below(9)), anything_row()]) for _ in range(n)]
+        rows = [dice.one_of([good_row(dice, dice.below(9)), anything_row(dice)]) for _ in range(n)]
         put_set("W", dice.below(120), dice.between(1, 8), n, rows)
     for _ in range(300):
         N, n = dice.between(1, 8), dice.between(1, 8)
-        rows = good_rows(N, n)
+        rows = good_rows(dice, N, n)
         if dice.chance(50):
-            rows[dice.below(n)] = good_row(dice.below(9))
-        put_set("W", dice.below(160), N, n, rows + [anything_row()] * dice.below(3))
+            rows[dice.below(n)] = good_row(dice, dice.below(9))
+        put_set("W", dice.below(160), N, n, rows + [anything_row(dice)] * dice.below(3))
 
 
 def make():
