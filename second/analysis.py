@@ -1,6 +1,6 @@
 """The bounds: B, A, L, s, g, f and R as the paper writes them."""
 
-from sheet import ACCEPTED, BUSY, LATE, ROOM, read, refused
+from sheet import ACCEPTED, BUSY, LATE, ROOM, printed_refusal, read, refused
 
 LIMIT = 4_000_000
 
@@ -90,7 +90,7 @@ def printed(sheet):
     places = [0] * the_set.n
     refusal = analyse(sheet, places)
     if refusal.number:
-        return "refused %d %d %d\n" % refusal
+        return printed_refusal(refusal)
     lines = ["accepted %d" % the_set.n, "row processor bound deadline"]
     for i, (bound, row) in enumerate(zip(places, the_set.rows)):
         lines.append("%d %d %d %d" % (i, row.processor, bound, row.D))

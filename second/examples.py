@@ -1,10 +1,6 @@
 """The paper's examples, as sets and sheets."""
 
-from sheet import MOST_ROWS, ZERO_ROW, Row, Set, bytes_of
-
-
-def set_with(N, rows):
-    return Set(N, len(rows), tuple(rows) + (ZERO_ROW,) * (MOST_ROWS - len(rows)))
+from sheet import Row, bytes_of, set_with
 
 
 def sheet_with(N, *rows):

@@ -11,9 +11,9 @@ hexadecimal digits; the rest decimal; each after a single space. No input is ove
 from board import ABSENT, COMPUTATION, LAST_CLOCK, MEMORY, WAITING, ZERO_STATE, Job, has_shape
 from cases import case, make_file
 from dice import Dice
-from examples import A, J, SHEETS, set_with, sheet_with
+from examples import A, J, SHEETS, sheet_with
 from play import NO_HAND, Play
-from sheet import Row
+from sheet import Row, set_with
 
 TOP32 = (1 << 32) - 1
 TOP64 = (1 << 64) - 1

@@ -22,6 +22,21 @@ def refused(number, row=0, instance=0):
     return Refusal(number, row, instance)
 
 
+def printed_refusal(refusal):
+    """A refusal as the programs print it."""
+    return "refused %d %d %d\n" % refusal
+
+
+def set_with(N, rows):
+    """The set of these rows, with zero rows after them."""
+    return Set(N, len(rows), tuple(rows) + (ZERO_ROW,) * (MOST_ROWS - len(rows)))
+
+
+def length_with(n):
+    """The length of a sheet of n rows."""
+    return 5 + 18 * n
+
+
 def big(part):
     return int.from_bytes(part, "big")
 
@@ -71,7 +86,7 @@ def read(sheet):
     if sheet[0] != 1:
         return refused(VERSION), ZERO_SET
     stated, N, n = big(sheet[1:3]), sheet[3], sheet[4]
-    if stated != len(sheet) or stated != 5 + 18 * n:
+    if stated != len(sheet) or stated != length_with(n):
         return refused(LENGTH), ZERO_SET
     if count_fails(N, n):
         return refused(COUNT), ZERO_SET
@@ -85,7 +100,7 @@ def read(sheet):
             return refused(number, r), ZERO_SET
         before = row.processor
         rows.append(row)
-    return ACCEPTED, Set(N, n, tuple(rows) + (ZERO_ROW,) * (MOST_ROWS - n))
+    return ACCEPTED, set_with(N, rows)
 
 
 def show(sheet, row):
@@ -99,7 +114,7 @@ def show(sheet, row):
 def bytes_of(the_set):
     """The sheet of a set that the writer takes."""
     n = the_set.n
-    sheet = bytes([1]) + (5 + 18 * n).to_bytes(2, "big") + bytes([the_set.N, n])
+    sheet = bytes([1]) + length_with(n).to_bytes(2, "big") + bytes([the_set.N, n])
     for row in the_set.rows[:n]:
         sheet += bytes([17, row.processor])
         for number in (row.m, row.c, row.T, row.D):
@@ -112,7 +127,7 @@ def write(the_set, buffer):
     refusal = set_fault(the_set)
     if refusal.number:
         return refusal
-    length = 5 + 18 * the_set.n
+    length = length_with(the_set.n)
     if len(buffer) < length:
         return refused(ROOM)
     buffer[:length] = bytes_of(the_set)
