@@ -1,24 +1,11 @@
 """Holds the second program against every worked example of the paper."""
 
-import sys
-
 import examples
 from analysis import analyse, least, printed, up
 from board import release, start, tick
+from checks import finish, same
 from dice import Dice
 from sheet import ACCEPTED, BUSY, LATE, Refusal, read, show, write
-
-checks = 0
-failures = 0
-
-
-def same(what, got, wanted):
-    global checks, failures
-    checks += 1
-    if got != wanted:
-        failures += 1
-        print("%s: got %r, wanted %r" % (what, got, wanted))
-
 
 SHEET_A = bytes.fromhex(
     "0100290202"
@@ -94,5 +81,4 @@ for _ in range(300):
     plain = [x for x in range(1, 401) if x == F(x)]
     same("climb", least(F, 1, 400), plain[0] if plain else None)
 
-print("examples: %d checks, %d failed" % (checks, failures))
-sys.exit(1 if failures else 0)
+finish("examples")
