@@ -17,7 +17,10 @@ from sheet import big
 
 HERE = os.path.dirname(os.path.abspath(__file__))
 RUN = os.path.join(os.path.dirname(HERE), "run")
-KINDS = {"R": "read", "F": "read", "S": "shown", "W": "written", "V": "written", "A": "analysed", "B": "analysed"}
+KINDS = {
+    "R": "read", "F": "read", "S": "shown", "W": "written", "V": "written", "A": "analysed", "B": "analysed",
+    "T": "texts composed", "L": "sheets listed",
+}
 
 
 def script(name, *words):
@@ -61,7 +64,7 @@ def main(seed, rounds):
     counts, differing = collections.Counter(), 0
     with tempfile.TemporaryDirectory() as folder:
         for round_seed in range(seed, seed + rounds):
-            for about in ("sheet", "bounds", "board"):
+            for about in ("sheet", "bounds", "board", "text"):
                 differing += compare(about, round_seed, folder, counts)
     for kind, times in counts.items():
         print("%10d %s" % (times, kind))
