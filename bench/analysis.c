@@ -1,19 +1,7 @@
 /* The analysis in plain C: the same algorithm on the same columns. With COUNT it counts what it does. */
-#include "bench.h"
+#include "plain.h"
 
-enum { VERSION_READ = 1, HEADER = 5, RECORD = 18, MOST_ROWS = 32, OWN = 32, MOST_TICKS = 1000000, LIMIT = 4000000 };
-
-enum { CUT = 1, VERSION, LENGTH, COUNTS, LENGTH_BYTE, PROCESSOR, PERIOD, DEADLINE, PHASES, BUSY, LATE, ROOM };
-
-typedef struct {
-  u8 processor;
-  u32 memory, computation, period, deadline;
-} Row;
-
-typedef struct {
-  usize count;
-  Row rows[MOST_ROWS];
-} Set;
+enum { OWN = 32, LIMIT = 4000000 };
 
 /* A weight, a period and a lead in each place: from 0 the rows of higher-ranked processors, from OWN the higher rows of
    the own processor. */
@@ -27,43 +15,10 @@ u64 instances_worked, terms_worked;
 #define INSTANCE instances_worked++
 #define TERMS(n) terms_worked += (n)
 #else
-#define analyse c_analyse
+#define analyse plain_analyse
 #define INSTANCE (void)0
 #define TERMS(n) (void)0
 #endif
-
-static u32 word(const u8 *s) { return (u32)s[0] << 24 | (u32)s[1] << 16 | (u32)s[2] << 8 | s[3]; }
-
-static u32 row_fault(u8 processors, u8 before, const Row *r) {
-  if (r->processor >= processors || r->processor < before) return PROCESSOR;
-  if (r->period == 0 || r->period > MOST_TICKS) return PERIOD;
-  if (r->deadline == 0 || r->deadline > r->period) return DEADLINE;
-  if (r->memory > MOST_TICKS || r->computation > MOST_TICKS || (r->memory | r->computation) == 0) return PHASES;
-  return 0;
-}
-
-static u8 read_sheet(const u8 *s, usize length, Set *set, usize *row) {
-  *row = 0;
-  if (length < HEADER) return CUT;
-  if (s[0] != VERSION_READ) return VERSION;
-  usize stated = (usize)s[1] << 8 | s[2], count = s[4];
-  if (stated != length || stated != HEADER + RECORD * count) return LENGTH;
-  if (s[3] == 0 || s[3] > 8 || count > MOST_ROWS) return COUNTS;
-  u8 before = 0;
-  for (usize i = 0; i < count; i++) {
-    const u8 *at = s + HEADER + RECORD * i;
-    Row *r = &set->rows[i];
-    *row = i;
-    if (at[0] != 17) return LENGTH_BYTE;
-    *r = (Row){at[1], word(at + 2), word(at + 6), word(at + 10), word(at + 14)};
-    u32 fault = row_fault(s[3], before, r);
-    if (fault) return fault;
-    before = r->processor;
-  }
-  set->count = count;
-  *row = 0;
-  return 0;
-}
 
 static inline u64 demand(const Columns *k, usize first, usize count, u32 x) {
   u64 sum = 0;
@@ -117,24 +72,25 @@ static u32 judge(const Columns *k, usize ranked, usize higher, const Row *r, u32
 }
 
 void analyse(const u8 *sheet, usize length, u32 *out, usize places, u8 *number, usize *row, u32 *instance) {
-  Set set;
-  *instance = 0;
-  if ((*number = read_sheet(sheet, length, &set, row))) return;
-  usize n = set.count;
+  Reading reading = read_sheet(sheet, length);
+  *number = reading.refusal.number, *row = reading.refusal.row, *instance = 0;
+  if (*number) return;
+  const Row *rows = reading.set.rows;
+  usize n = reading.set.count;
   if (places < n) { *number = ROOM; return; }
   u32 blocked[MOST_ROWS], bounds[MOST_ROWS];
   for (usize i = n; i-- > 0;) {
-    const Row *lower = &set.rows[i + 1];
+    const Row *lower = &rows[i + 1];
     blocked[i] = 0;
-    if (i + 1 == n || lower->processor != set.rows[i].processor) continue;
+    if (i + 1 == n || lower->processor != rows[i].processor) continue;
     u32 e = lower->memory + lower->computation;
     blocked[i] = blocked[i + 1] > e ? blocked[i + 1] : e;
   }
   Columns k;
   usize ranked = 0, pending = 0, first = 0;
   for (usize i = 0; i < n; i++) {
-    const Row *r = &set.rows[i];
-    if (i > 0 && r->processor != set.rows[i - 1].processor) { ranked = pending; first = i; }
+    const Row *r = &rows[i];
+    if (i > 0 && r->processor != rows[i - 1].processor) { ranked = pending; first = i; }
     u32 busy = busy_length(&k, ranked, i - first, r, blocked[i]);
     if (busy == 0) { *number = BUSY; *row = i; return; }
     u32 late = judge(&k, ranked, i - first, r, blocked[i], busy, &bounds[i]);

@@ -1,0 +1,3 @@
+pub mod Digest
+pub mod Calls
+pub mod Readings
