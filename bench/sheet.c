@@ -28,13 +28,14 @@ Reading read_sheet(const u8 *sheet, usize length) {
 }
 
 u32 plain_read(const u8 *sheet, usize length, u32 calls) {
+  Reading r = read_sheet(sheet, length);
   u32 digest = 0;
   for (u32 call = 0; call < calls; call++) {
-    Reading r = read_sheet(sheet, length);
-    const Row *row = &r.set.rows[call % MOST_ROWS];
+    r = read_sheet(sheet, length);
     digest = mix(mix(mix(digest, r.refusal.number), r.refusal.row), r.refusal.instance);
     digest = mix(mix(digest, r.set.processors), r.set.count);
-    digest = mix(mix(mix(mix(mix(digest, row->processor), row->memory), row->computation), row->period), row->deadline);
   }
+  for (const Row *row = r.set.rows; row < r.set.rows + MOST_ROWS; row++)
+    digest = mix(mix(mix(mix(mix(digest, row->processor), row->memory), row->computation), row->period), row->deadline);
   return digest;
 }

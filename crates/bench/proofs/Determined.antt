@@ -6,13 +6,13 @@ use Prim.Native.Nat.{ℕ}
 use lib.ListN.{length}
 use Rattle.analysis.specs.Analysis.{analyseRefusal, analysed}
 use Rattle.bench.specs.Calls.{withCalls, begin, outcome}
-use Rattle.bench.specs.Readings.{readings}
+use Rattle.bench.specs.Readings.{readingsOutcome}
 
 calls-determined : (sheet : List ℕ) (releases round calls a b : ℕ)
     → a ≡ outcome (withCalls releases round calls (begin sheet)) → b ≡ outcome (withCalls releases round calls (begin sheet)) → a ≡ b
 calls-determined sheet releases round calls a b p q = p ∙ sym q
 
-readings-determined : (sheet : List ℕ) (calls a b : ℕ) → a ≡ readings sheet calls → b ≡ readings sheet calls → a ≡ b
+readings-determined : (sheet : List ℕ) (calls a b : ℕ) → a ≡ readingsOutcome sheet calls → b ≡ readingsOutcome sheet calls → a ≡ b
 readings-determined sheet calls a b p q = p ∙ sym q
 
 -- What a run of the analysis leaves behind: the bounds, and the refusal's three numbers.

@@ -1,5 +1,5 @@
--- Many readings of one sheet. What comes out is a digest of what was read: of each reading the refusal, N, n and one row, the
--- next one with each reading, so that no row can be left unread.
+-- Many readings of one sheet. What comes out is a digest of what was read: each reading's refusal, N and n, and at the end all
+-- rows of the last.
 use Prim.Native.Nat.{ℕ, zero, suc, _%_}
 use mathlib.Core.List.{List}
 use Rattle.sheet.specs.declared.Row.{Row}
@@ -13,15 +13,25 @@ use Rattle.bench.specs.Digest.{digests, mix}
 unfoldable pub mixRefusal : ℕ → Refusal → ℕ
 mixRefusal digest refusal = mix (mix (mix digest (refusal .number)) (refusal .row % digests)) (refusal .instance)
 
+unfoldable pub mixCounts : ℕ → Set → ℕ
+mixCounts digest set = mix (mix digest (set .processors)) (set .count % digests)
+
+unfoldable pub mixReading : ℕ → Reading → ℕ
+mixReading digest reading = mixCounts (mixRefusal digest (reading .refusal)) (reading .set)
+
 unfoldable pub mixRow : ℕ → Row → ℕ
 mixRow digest row =
     mix (mix (mix (mix (mix digest (row .processor)) (row .memory)) (row .computation)) (row .period)) (row .deadline)
 
--- N, n and the row at a place.
-unfoldable pub mixSet : ℕ → Set → ℕ → ℕ
-mixSet digest set place = mixRow (mix (mix digest (set .processors)) (set .count % digests)) (rowIn set place)
+-- The first rows.
+unfoldable pub mixRows : ℕ → Set → ℕ → ℕ
+mixRows digest set zero = digest
+mixRows digest set (suc i) = mixRow (mixRows digest set i) (rowIn set i)
 
--- The digest of a number of readings.
+-- The answers of a number of readings.
 unfoldable pub readings : List ℕ → ℕ → ℕ
 readings sheet zero = 0
-readings sheet (suc k) = mixSet (mixRefusal (readings sheet k) (readSheet sheet .refusal)) (readSheet sheet .set) (k % mostRows)
+readings sheet (suc k) = mixReading (readings sheet k) (readSheet sheet)
+
+unfoldable pub readingsOutcome : List ℕ → ℕ → ℕ
+readingsOutcome sheet calls = mixRows (readings sheet calls) (readSheet sheet .set) mostRows
