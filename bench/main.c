@@ -58,7 +58,7 @@ static u32 analysed(Analysis *analyse, const Work *work, u32 times) {
 static u32 plain_analysed(const Work *work, u32 times) { return analysed(plain_analyse, work, times); }
 static u32 bench_analysed(const Work *work, u32 times) { return analysed(bench_analyse, work, times); }
 
-static const Job analysis = {plain_analysed, bench_analysed, 1};
+static const Job analysis = {plain_analysed, bench_analysed};
 
 static void measure_analysis(const char *what, Work work) {
   instances_worked = terms_worked = 0;
@@ -114,7 +114,7 @@ static u32 called(Calls *make, const Work *w, u32 times) {
 static u32 plain_called(const Work *work, u32 times) { return called(plain_board, work, times); }
 static u32 bench_called(const Work *work, u32 times) { return called(bench_board, work, times); }
 
-static const Job board = {plain_called, bench_called, 1};
+static const Job board = {plain_called, bench_called};
 
 static void measure_calls(const char *what, Work work, u32 releases, u32 ticks, u32 calls) {
   work.releases = releases, work.round = releases + ticks, work.calls = calls;
@@ -159,8 +159,7 @@ static void releases(void) {
 static u32 plain_readings(const Work *work, u32 times) { return plain_read(work->sheet, work->length, times); }
 static u32 bench_readings(const Work *work, u32 times) { return bench_read(work->sheet, work->length, times); }
 
-/* So often that each row comes up. */
-static const Job reading = {plain_readings, bench_readings, 2 * MOST_ROWS};
+static const Job reading = {plain_readings, bench_readings};
 
 static void measure_reading(const char *what, Work work) { measure(what, &reading, &work, 1); }
 

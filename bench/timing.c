@@ -22,7 +22,7 @@ static double timed(Side *side, const Work *work, u32 times, u32 *digest) {
 }
 
 static u32 times_for(const Job *job, const Work *work) {
-  u32 times = job->least, digest;
+  u32 times = 1, digest;
   if (only_check) return times;
   while (times < MOST_TIMES && timed(job->plain, work, times, &digest) < LEAST_SECONDS) times *= 2;
   return times;

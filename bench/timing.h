@@ -7,8 +7,7 @@ typedef struct { const u8 *sheet; usize length; u32 releases, round, calls; } Wo
 /* Does the work so many times and answers a digest of what came out. */
 typedef u32 Side(const Work *, u32 times);
 
-/* Both sides of a job, and how often it is done at the least. */
-typedef struct { Side *plain, *proved; u32 least; } Job;
+typedef struct { Side *plain, *proved; } Job;
 
 /* Whether the answers are compared and nothing is timed. */
 extern bool only_check;
