@@ -1,4 +1,4 @@
-// Numbers out of a case's bytes, and the digest of the trials.
+// Numbers out of a case's bytes, the buffers that are lent, and the digest of the trials.
 
 use sheet::Refusal;
 use sheet::Row;
@@ -52,6 +52,15 @@ pub fn digest_of_bytes(bytes: &[u8]) -> u64 {
         i += 1;
     }
     digest
+}
+
+// A buffer to be written to: no byte is like its neighbours, so that one out of place shows.
+pub fn fill(buffer: &mut [u8]) {
+    let mut i = 0;
+    while i < buffer.len() {
+        buffer[i] = (i % 251) as u8;
+        i += 1;
+    }
 }
 
 pub fn wide(byte: u8) -> u64 {

@@ -10,6 +10,7 @@ mod input;
 mod line;
 mod poke;
 mod sheet_cases;
+mod text_cases;
 
 ghost use mathlib.Core.Path.{_≡_};
 ghost use lib.ListN.{length};
@@ -32,6 +33,8 @@ fn put_case(line: &mut [u8], end: usize, kind: u8, case: &[u8]) -> usize {
         b'B' => bounds_cases::put_bounds(line, end, case, true),
         b'P' => board_cases::put_play(line, end, case, false),
         b'Q' => board_cases::put_play(line, end, case, true),
+        b'T' => text_cases::put_text(line, end, case, false),
+        b'L' => text_cases::put_text(line, end, case, true),
         _ => end,
     }
 }

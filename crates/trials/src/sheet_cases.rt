@@ -5,8 +5,6 @@
 //   W  a buffer's length (2 bytes), processors (1 byte), count (8 bytes), rows: writes the set of
 //      these to a buffer whose byte i is i modulo 251, and prints refusal and digest of the buffer.
 //   V  the same, and then all of the buffer.
-ghost use mathlib.Core.Path.{_≡_};
-ghost use lib.ListN.{length};
 use crate::input;
 use crate::line;
 use sheet::Row;
@@ -86,16 +84,8 @@ fn set_of(case: &[u8]) -> Set {
     }
 }
 
-fn fill(buffer: &mut [u8]) {
-    let mut i = 0;
-    while i < buffer.len() {
-        buffer[i] = (i % 251) as u8;
-        i += 1;
-    }
-}
-
 fn put_written(line: &mut [u8], end: usize, case: &[u8], buffer: &mut [u8], whole: bool) -> usize {
-    fill(buffer);
+    input::fill(buffer);
     let refusal = sheet::write(set_of(case), buffer);
     let end = line::put_refusal(line, end, refusal);
     let end = line::put_digest(line, end, input::digest_of_bytes(buffer));
@@ -103,13 +93,6 @@ fn put_written(line: &mut [u8], end: usize, case: &[u8], buffer: &mut [u8], whol
         return line::put_bytes(line, end, buffer);
     }
     end
-}
-
-// The buffers to write to are the beginnings of this one.
-fn room() -> [u8; 1024]
-    ensures { λ r. ⌜ 1024 ≡ length r ⌝ }
-{
-    [0; 1024]
 }
 
 fn put_buffer(line: &mut [u8], end: usize, case: &[u8], buffer: &mut [u8], whole: bool) -> usize {
@@ -121,6 +104,6 @@ fn put_buffer(line: &mut [u8], end: usize, case: &[u8], buffer: &mut [u8], whole
 }
 
 pub fn put_set(line: &mut [u8], end: usize, case: &[u8], whole: bool) -> usize {
-    let mut buffer = room();
+    let mut buffer = io::buffer();
     put_buffer(line, end, case, &mut buffer, whole)
 }

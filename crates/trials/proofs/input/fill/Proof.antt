@@ -1,11 +1,11 @@
--- `trials::sheet_cases::fill` is safe and ends. The length stays, and the measure is what is left of it.
+-- `trials::input::fill` is safe and ends. The length stays, and the measure is what is left of it.
 -- Assumes nothing.
 use borrow.Author.Needs.{needs}
 use Prim.Native.Nat.{_-_}
 use mathlib.Core.Path.{_≡_}
 use lib.ListN.{length}
-use Rattle.trials.proofs.sheet_cases.fill.Statement.{statement}
-use Rattle.trials.proofs.sheet_cases.fill.Tie as tie
+use Rattle.trials.proofs.input.fill.Statement.{statement}
+use Rattle.trials.proofs.input.fill.Tie as tie
 
 abbrev Inv-loop : tie.InvT-loop
 Inv-loop buffer₀ i₀ buffer i = length buffer ≡ length buffer₀
