@@ -10,12 +10,14 @@ use Rattle.analysis.specs.Equations.{busyAt, busyLength, startAt, start,
 use Rattle.analysis.specs.Bounds.{sumOver, largestOver, blocking, tokenTaken, equationsOf, rowAfter, worked, analyseSet, boundIn, BusyAt}
 use Rattle.analysis.proofs.VerdictLaws.{verdict-busy}
 use Rattle.analysis.proofs.RowLaws.{busy-climbs}
-use Rattle.analysis.specs.Examples.{table, Holds, exampleE1, sheets, HoldOfSheets}
+use Rattle.analysis.specs.Examples.{table, Holds, sheets, HoldOfSheets}
 use Rattle.laws.specs.Choice.{firstOf}
 use Rattle.laws.specs.Tabulate.{tabFrom}
 use Rattle.sheet.specs.Layout.{wordAt, rowOf, rowAt}
 use Rattle.sheet.specs.Ranges.{firstFault}
 use Rattle.sheet.specs.Reading.{headerFault, recordFault, readRefusal, setOf, readSheet}
+use Rattle.sheet.specs.Writing.{sheetOf}
+use Rattle.sheet.specs.Examples.{exampleE1}
 use Rattle.analysis.specs.Analysis.{readingRefusal, readingBounds, analyseRefusal, analysed}
 
 -- the climb passes the limit in few steps
@@ -31,7 +33,7 @@ pub holds : Holds table × HoldOfSheets sheets
 unfolding
     analyseSet worked rowAfter verdictOf judged response memoryEnd endAt start startAt busyLength busyAt equationsOf tokenTaken
     blocking largestOver sumOver sumWhere sumTo maxTo least solutionFrom firstFrom tabFrom firstOf
-    analyseRefusal analysed readingRefusal readingBounds readSheet readRefusal setOf headerFault recordFault firstFault rowAt rowOf wordAt
+    analyseRefusal analysed readingRefusal readingBounds readSheet readRefusal setOf headerFault recordFault firstFault rowAt rowOf wordAt sheetOf
 holds = (
   (refl, (refl, (refl, (refl, (refl, (holds-e1, (refl, (refl, (refl, tt))))))))),
   (refl, refl, (refl, refl, (refl, refl, (refl, refl, (refl, refl, tt))))),

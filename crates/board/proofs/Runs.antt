@@ -2,15 +2,12 @@
 use Prim.Native.Nat.{ℕ, zero, suc}
 use mathlib.Core.Path.{_≡_, refl}
 use mathlib.Core.Bool.{true}
-use mathlib.Core.List.{_∷_}
-use lib.ListN.{replicate}
 use Rattle.laws.specs.Choice.{firstOf}
 use Rattle.laws.specs.Search.{firstFrom, allFrom}
 use Rattle.laws.specs.Tabulate.{tabFrom}
 use Rattle.laws.specs.Words.{wordFrom}
-use Rattle.sheet.specs.Ranges.{countFault, rowFault, setRowFault, firstFault, setRefusal, zeroRow}
-use Rattle.sheet.specs.declared.Row.{Row}
-use Rattle.sheet.specs.declared.Set.{Set}
+use Rattle.sheet.specs.Ranges.{countFault, rowFault, setRowFault, firstFault, setRefusal}
+use Rattle.sheet.specs.Examples.{exampleA, exampleJ}
 use Rattle.board.specs.declared.State.{State}
 use Rattle.board.specs.declared.Standing.the-variants.{Absent}
 use Rattle.board.specs.States.{jobAt, startSet}
@@ -26,17 +23,8 @@ abbrev ticks : ℕ → State → State
 ticks zero s = s
 ticks (suc k) s = ticks k (tickOf s .state)
 
-abbrev row : ℕ → ℕ → ℕ → ℕ → ℕ → Row
-row p m c t d = record { processor = p; memory = m; computation = c; period = t; deadline = d }
-
-abbrev setA : Set
-setA = record { processors = 2; count = 2; rows = row 0 1 1 4 4 ∷ row 1 2 3 12 12 ∷ replicate 30 zeroRow }
-
-abbrev setJ : Set
-setJ = record { processors = 2; count = 3; rows = row 0 2 0 6 6 ∷ row 0 0 3 12 12 ∷ row 1 3 0 24 24 ∷ replicate 29 zeroRow }
-
 abbrev bothReleased : State
-bothReleased = after (after (startSet setA) 0) 1
+bothReleased = after (after (startSet exampleA) 0) 1
 
 -- A, both released at 0: responses 2 and 6.
 pub run-A : (jobAt (ticks 2 bothReleased) 0 ≡ record { ever = true; last = 0; standing = Absent; worst = 2; completed = 1 })
@@ -45,6 +33,6 @@ unfolding firstOf firstFrom allFrom tabFrom wordFrom countFault rowFault setRowF
 run-A = (refl, refl)
 
 -- J: row 1 released at 0, row 0 at 1, row 2 at 3, row 0 at 7. Row 2 responds in 7.
-pub run-J : jobAt (ticks 3 (after (ticks 4 (after (ticks 2 (after (ticks 1 (after (startSet setJ) 1)) 0)) 2)) 0)) 2 ≡ record { ever = true; last = 3; standing = Absent; worst = 7; completed = 1 }
+pub run-J : jobAt (ticks 3 (after (ticks 4 (after (ticks 2 (after (ticks 1 (after (startSet exampleJ) 1)) 0)) 2)) 0)) 2 ≡ record { ever = true; last = 3; standing = Absent; worst = 7; completed = 1 }
 unfolding firstOf firstFrom allFrom tabFrom wordFrom countFault rowFault setRowFault firstFault setRefusal startSet setPasses rowIsZero absentWithZeros jobIsZero atMostClock everOrZero standingFits jobFits rowFits handFits shapeOk waitsOn firstWaiting handTaken jobTaken taken inMemory tokenAt hasToken completes jobRun frees ran completedRows tooEarly releaseNumber released releaseOf tickNumber ticked tickOf
 run-J = refl

@@ -15,7 +15,7 @@ use Rattle.promise.specs.Runs.{calls}
 use Rattle.promise.specs.Promises.{SheetPromised}
 use Rattle.promise.proofs.Promised.{promised-of-sheets}
 use Rattle.promise.specs.Examples.{table, Holds}
-use Rattle.analysis.specs.Examples.{sheetA}
+use Rattle.sheet.specs.Examples.{sheetA}
 
 pub holds : Holds table
 unfolding calls firstOf firstFrom allFrom tabFrom wordFrom countFault rowFault setRowFault firstFault setRefusal startSet setPasses rowIsZero absentWithZeros jobIsZero atMostClock everOrZero standingFits jobFits rowFits handFits shapeOk waitsOn firstWaiting handTaken jobTaken taken inMemory tokenAt hasToken completes jobRun frees ran completedRows tooEarly releaseNumber released releaseOf tickNumber ticked tickOf

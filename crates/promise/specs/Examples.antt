@@ -4,14 +4,13 @@ use mathlib.Core.Path.{_≡_}
 use mathlib.Core.List.{List, [], _∷_}
 use Rattle.laws.specs.Tabulate.{tab}
 use Rattle.sheet.specs.declared.Set.{Set}
-use Rattle.analysis.specs.Bounds.{Outcome, Accepted, BusyAt, LateAt, analyseSet}
-use Rattle.analysis.specs.Examples.{exampleA, exampleB, exampleC, exampleC6, exampleJ, exampleE1, exampleE2, exampleE3, exampleEmpty}
+use Rattle.analysis.specs.Examples as analysis
+use Rattle.analysis.specs.Examples.{analysedA, analysedB, analysedC, analysedC6, analysedJ, analysedE1, analysedE2, analysedE3, analysedEmpty}
 use Rattle.board.specs.States.{jobAt, startSet}
 use Rattle.promise.specs.Runs.{Call, release, tick, calls}
 
 pub record Example : Type 0 where
-  pub set : Set
-  pub outcome : Outcome
+  pub analysis : analysis.Example
   pub run : List Call
   pub worst : List ℕ
 
@@ -27,21 +26,22 @@ runA = release 0 ∷ release 1 ∷ ticks 6 []
 abbrev pub runJ : List Call
 runJ = release 1 ∷ ticks 1 (release 0 ∷ ticks 2 (release 2 ∷ ticks 4 (release 0 ∷ ticks 3 [])))
 
-abbrev pub example : Set → Outcome → List Call → List ℕ → Example
-example set outcome run worst = record { set = set; outcome = outcome; run = run; worst = worst }
+-- An example of the analysis, with calls and the worst responses after them.
+abbrev pub played : analysis.Example → List Call → List ℕ → Example
+played e run worst = record { analysis = e; run = run; worst = worst }
 
 abbrev pub table : List Example
 table =
-    example exampleA (Accepted (2 ∷ 6 ∷ [])) runA (2 ∷ 6 ∷ [])
-    ∷ example exampleB (Accepted (4 ∷ 8 ∷ 8 ∷ [])) [] (0 ∷ 0 ∷ 0 ∷ [])
-    ∷ example exampleC (Accepted (4 ∷ 6 ∷ 7 ∷ [])) [] (0 ∷ 0 ∷ 0 ∷ [])
-    ∷ example exampleC6 (LateAt 2 1) [] (0 ∷ 0 ∷ 0 ∷ [])
-    ∷ example exampleJ (Accepted (5 ∷ 5 ∷ 7 ∷ [])) [] (0 ∷ 0 ∷ 0 ∷ [])
-    ∷ example exampleJ (Accepted (5 ∷ 5 ∷ 7 ∷ [])) runJ (4 ∷ 3 ∷ 7 ∷ [])
-    ∷ example exampleE1 (BusyAt 0) [] (0 ∷ [])
-    ∷ example exampleE2 (Accepted (4 ∷ [])) [] (0 ∷ [])
-    ∷ example exampleE3 (LateAt 0 0) [] (0 ∷ [])
-    ∷ example exampleEmpty (Accepted []) [] []
+    played analysedA runA (2 ∷ 6 ∷ [])
+    ∷ played analysedB [] (0 ∷ 0 ∷ 0 ∷ [])
+    ∷ played analysedC [] (0 ∷ 0 ∷ 0 ∷ [])
+    ∷ played analysedC6 [] (0 ∷ 0 ∷ 0 ∷ [])
+    ∷ played analysedJ [] (0 ∷ 0 ∷ 0 ∷ [])
+    ∷ played analysedJ runJ (4 ∷ 3 ∷ 7 ∷ [])
+    ∷ played analysedE1 [] (0 ∷ [])
+    ∷ played analysedE2 [] (0 ∷ [])
+    ∷ played analysedE3 [] (0 ∷ [])
+    ∷ played analysedEmpty [] []
     ∷ []
 
 abbrev pub worstAfter : Set → List Call → List ℕ
@@ -49,4 +49,4 @@ worstAfter set run = tab (set .count) (λ i. jobAt (calls (startSet set) run) i 
 
 abbrev pub Holds : List Example → Type 0
 Holds [] = Unit {0}
-Holds (e ∷ more) = (analyseSet (e .set) ≡ e .outcome) × (worstAfter (e .set) (e .run) ≡ e .worst) × Holds more
+Holds (e ∷ more) = analysis.Hold (e .analysis) × (worstAfter (e .analysis .given) (e .run) ≡ e .worst) × Holds more

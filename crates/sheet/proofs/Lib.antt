@@ -6,3 +6,4 @@ pub mod RoundTrip
 pub mod RefusalFields
 pub mod SmallRefusals
 pub mod Determined
+pub mod ExamplesHold

@@ -4,3 +4,4 @@ pub mod Ranges
 pub mod Reading
 pub mod Showing
 pub mod Writing
+pub mod Examples

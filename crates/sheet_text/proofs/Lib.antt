@@ -11,3 +11,4 @@ pub mod ListingLaws
 pub mod RoundTrip
 pub mod Fits
 pub mod Determined
+pub mod ExamplesHold

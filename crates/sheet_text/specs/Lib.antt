@@ -3,3 +3,4 @@ pub mod Words
 pub mod Meaning
 pub mod Composing
 pub mod Listing
+pub mod Examples
