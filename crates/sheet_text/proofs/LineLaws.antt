@@ -8,8 +8,9 @@ use native.Mathlib.Numerals.{add-one}
 use lib.ListN.{length, take, drop, length-drop, drop-of-length-le}
 use lib.Seq.{drop-drop, take-take}
 use Rattle.laws.specs.ChoiceLaws.{true-not-false}
-use Rattle.sheet_text.specs.Words.{isMark, before, firstLine, grown, linesOf, contentOf, hasWord, cutOf}
-use Rattle.sheet_text.specs.Meaning.{Line, lineAt, worded, contentAt, linesFrom, mostBytes, Finds}
+use Rattle.sheet_text.specs.Words.{isMark, before, firstLine, grown, linesOf, contentOf, hasWord}
+use Rattle.sheet_text.specs.Meaning.{Line, lineAt, worded, mostBytes}
+use Rattle.sheet_text.specs.Parts.{cutOf, contentAt, linesFrom, Finds}
 use Rattle.sheet_text.specs.declared.Mark.the-variants.{Newline, Hash}
 use Rattle.sheet_text.specs.declared.Cut.{Cut}
 use Rattle.sheet_text.specs.declared.Next.{Next}

@@ -16,7 +16,8 @@ use Rattle.sheet.specs.declared.Row.{Row}
 use Rattle.sheet.specs.Ranges.{mostRows, zeroRow}
 use Rattle.sheet_text.specs.Faults.{noFault, orElse}
 use Rattle.sheet_text.specs.Words.{linesOf}
-use Rattle.sheet_text.specs.Meaning.{Line, lineAt, noLine, worded, rowSaid, rowsFault, rowAt, meant, meantNothing, rowsMeant, mostBytes, contentAt, linesFrom, Finds}
+use Rattle.sheet_text.specs.Meaning.{Line, lineAt, noLine, worded, rowSaid, rowsFault, rowAt, meant, meantNothing, rowsMeant, mostBytes}
+use Rattle.sheet_text.specs.Parts.{contentAt, linesFrom, Finds}
 use Rattle.sheet_text.specs.declared.Fault.{Fault}
 use Rattle.sheet_text.specs.declared.RowSaid.{RowSaid}
 use Rattle.sheet_text.specs.declared.Next.{Next}

@@ -24,7 +24,8 @@ use Rattle.text.specs.Refusing.{refusedLine}
 use Rattle.text.specs.Ascii.{ascii}
 use Rattle.sheet_text.specs.Faults.{LONG, FIRST, faultAt}
 use Rattle.sheet_text.specs.Words.{linesOf, wordOf, wordEnd, afterWord, blanksOf, sameBytes}
-use Rattle.sheet_text.specs.Meaning.{Line, lineAt, worded, numbersSaid, firstLineSaid, faultyNumbers, meantNothing, rowsMeant, pageMeant, mostBytes, meaningOf, contentAt, linesFrom, Finds}
+use Rattle.sheet_text.specs.Meaning.{Line, lineAt, worded, numbersSaid, firstLineSaid, faultyNumbers, meantNothing, rowsMeant, pageMeant, mostBytes, meaningOf}
+use Rattle.sheet_text.specs.Parts.{contentAt, linesFrom, Finds}
 use Rattle.sheet_text.specs.Composing.{refusedText, answerOf, composeAnswer, composed, placedLine, answerLine}
 use Rattle.sheet_text.specs.Listing.{listing, listed}
 use Rattle.sheet_text.specs.declared.Fault.{Fault}

@@ -13,7 +13,8 @@ use borrow.Author.Tests.{eq-eqb, ne-eqb, lt-ltb, le-ltb}
 use Rattle.laws.specs.Choice.{pick, firstOf}
 use Rattle.laws.specs.ChoiceLaws.{pick-true}
 use Rattle.sheet_text.specs.Faults.{NUMBER, LARGE, FEW}
-use Rattle.sheet_text.specs.Words.{isMark, isDigit, before, firstLine, contentOf, blanksOf, hasWord, wordOf, sameBytes, allDigits, valueFrom, valueOf, numberFault, numberSaid, fieldSaid, tooLarge, capped, cutOf}
+use Rattle.sheet_text.specs.Words.{isMark, isDigit, before, firstLine, contentOf, blanksOf, hasWord, wordOf, sameBytes, allDigits, valueFrom, valueOf, numberFault, numberSaid, fieldSaid}
+use Rattle.sheet_text.specs.Parts.{tooLarge, capped, cutOf}
 use Rattle.sheet_text.specs.declared.Mark.{Mark}
 use Rattle.sheet_text.specs.declared.Mark.the-variants.{Newline, Hash, Blank, Visible}
 use Rattle.sheet_text.specs.declared.Field.{Field}

@@ -1,9 +1,8 @@
 -- What a text says: a set, or the first fault.
-use Prim.Native.Nat.{ℕ, zero, suc, _+_, _<_, _≤_, _-_}
-use mathlib.Core.Path.{_≡_}
-use mathlib.Core.Bool.{Bool, true, false}
+use Prim.Native.Nat.{ℕ, zero, suc, _+_}
+use mathlib.Core.Bool.{true, false}
 use mathlib.Core.List.{List, [], _∷_}
-use lib.ListN.{length, getD, take, drop, replicate}
+use lib.ListN.{length, getD, replicate}
 use lib.Dec.{eqb, ltb}
 use Rattle.laws.specs.Choice.{pick}
 use Rattle.laws.specs.Tabulate.{padded}
@@ -16,7 +15,6 @@ use Rattle.sheet_text.specs.Words.{linesOf, contentOf, blanksOf, hasWord
 use Rattle.sheet_text.specs.declared.Fault.{Fault}
 use Rattle.sheet_text.specs.declared.Numbers.{Numbers}
 use Rattle.sheet_text.specs.declared.RowSaid.{RowSaid}
-use Rattle.sheet_text.specs.declared.Next.{Next}
 use Rattle.sheet_text.specs.declared.Meaning.{Meaning}
 
 -- A line with words: its number, and what it says.
@@ -33,8 +31,8 @@ worded n [] = []
 worded n (line ∷ lines) =
     elim (hasWord (contentOf line)) [ true ↦ lineAt n (contentOf line) ∷ worded (suc n) lines | false ↦ worded (suc n) lines ]
 
--- What is wrong with the numbers that are left of a line, from number k on. What is left begins at a column.
-unfoldable pub numbersFault : ℕ → ℕ → ℕ → ℕ → List ℕ → Fault
+-- What is wrong with what is left of a line, which begins at a column and has to be so many numbers, number k and those after it.
+unfoldable pub numbersFault : (count k line column : ℕ) → List ℕ → Fault
 numbersFault zero k line column left = pick (hasWord left) (faultAt MANY line (column + blanksOf left)) noFault
 numbersFault (suc count) k line column left =
     orElse (faultAt (fieldSaid (limit k) left .fault) line (column + fieldSaid (limit k) left .place))
@@ -54,8 +52,8 @@ mostNumbers = 5
 abbrev pub faultyNumbers : Fault → Numbers
 faultyNumbers fault = record { fault = fault; values = replicate mostNumbers 0 }
 
--- So many numbers and no more stand on what is left of a line.
-unfoldable pub numbersSaid : ℕ → ℕ → ℕ → List ℕ → Numbers
+-- What is left of a line says so many numbers.
+unfoldable pub numbersSaid : (count line column : ℕ) → List ℕ → Numbers
 numbersSaid count line column left =
     pick (eqb (numbersFault count 0 line column left .number) 0)
     (record { fault = noFault; values = padded mostNumbers count (valueAt left) 0 })
@@ -79,14 +77,14 @@ rowOf values =
       deadline = getD values 4 0;
     }
 
--- Row k's line.
-unfoldable pub rowNumbers : ℕ → ℕ → List ℕ → Numbers
+-- Row k's line has number n.
+unfoldable pub rowNumbers : (k n : ℕ) → List ℕ → Numbers
 rowNumbers k n content =
     pick (ltb k mostRows)
     (numbersSaid mostNumbers n 1 content)
     (faultyNumbers (faultAt ROWS n (blanksOf content + 1)))
 
-unfoldable pub rowSaid : ℕ → ℕ → List ℕ → RowSaid
+unfoldable pub rowSaid : (k n : ℕ) → List ℕ → RowSaid
 rowSaid k n content = record { fault = rowNumbers k n content .fault; row = rowOf (rowNumbers k n content .values) }
 
 -- What is wrong with the lines of row k, row k + 1 and so on.
@@ -113,8 +111,8 @@ rowsMeant N lines =
     (meant (record { processors = N; count = length lines; rows = padded mostRows (length lines) (rowAt lines) zeroRow }))
     (meantNothing (rowsFault 0 lines))
 
--- The first line, then the rows. A text without words lacks its first line where its last line has ended.
-unfoldable pub pageMeant : ℕ → List Line → Meaning
+-- The first line, then the rows. A text without words lacks its first line after its last line.
+unfoldable pub pageMeant : (last : ℕ) → List Line → Meaning
 pageMeant last [] = meantNothing (faultAt FIRST (1 + last) 1)
 pageMeant last (l ∷ lines) =
     let first = firstLineSaid (l .number) (l .content) in
@@ -126,20 +124,3 @@ mostBytes = 65535
 unfoldable pub meaningOf : List ℕ → Meaning
 meaningOf text =
     pick (ltb mostBytes (length text)) (meantNothing (faultAt LONG 1 1)) (pageMeant (length (linesOf text)) (worded 1 (linesOf text)))
-
--- What is left of a text after its lines up to a place, where the next line with words has been looked for.
-abbrev pub contentAt : List ℕ → Next → List ℕ
-contentAt text next = take (next .stop - next .start) (drop (next .start) text)
-
-abbrev pub linesFrom : List ℕ → Next → List Line
-linesFrom text next =
-    pick (next .found) (lineAt (next .number) (contentAt text next) ∷ worded (suc (next .number)) (linesOf (drop (next .after) text))) []
-
-pub record Finds (text : List ℕ) (place number : ℕ) (next : Next) : Type 0 where
-  pub lines : worded number (linesOf (drop place text)) ≡ linesFrom text next
-  pub forth : place ≤ next .start
-  pub start-within : next .found ≡ true → next .start < length text
-  pub content-within : next .found ≡ true → (next .start ≤ next .stop) × (next .stop ≤ length text)
-  pub beyond : next .found ≡ true → (next .start < next .after) × (next .after ≤ suc (length text))
-  pub counted : next .number ≤ number + (next .start - place)
-  pub last : next .found ≡ false → next .number ≡ number + length (linesOf (drop place text))

@@ -11,18 +11,17 @@ use Rattle.sheet_text.specs.declared.Mark.{Mark}
 use Rattle.sheet_text.specs.declared.Mark.the-variants.{Newline, Hash, Blank, Visible}
 use Rattle.sheet_text.specs.declared.Number.{Number}
 use Rattle.sheet_text.specs.declared.Field.{Field}
-use Rattle.sheet_text.specs.declared.Cut.{Cut}
 
 -- The space, the tab and the carriage return.
 abbrev pub isBlank : ℕ → Bool
-isBlank b = eqb b 32 || eqb b 9 || eqb b 13
+isBlank b = eqb b (code " ") || eqb b (code "\t") || eqb b (code "\r")
 
 abbrev pub isDigit : ℕ → Bool
-isDigit b = leb 48 b && leb b 57
+isDigit b = leb (code "0") b && leb b (code "9")
 
 abbrev pub isMark : Mark → ℕ → Bool
-isMark Newline b = eqb b 10
-isMark Hash b = eqb b 35
+isMark Newline b = eqb b (code "\n")
+isMark Hash b = eqb b (code "#")
 isMark Blank b = isBlank b
 isMark Visible b = not (isBlank b)
 
@@ -80,42 +79,26 @@ allDigits (b ∷ word) = elim (isDigit b) [ true ↦ allDigits word | false ↦ 
 
 unfoldable pub valueFrom : ℕ → List ℕ → ℕ
 valueFrom v [] = v
-valueFrom v (b ∷ word) = valueFrom (v * 10 + (b - 48)) word
+valueFrom v (b ∷ word) = valueFrom (v * 10 + (b - code "0")) word
 
 abbrev pub valueOf : List ℕ → ℕ
 valueOf word = valueFrom 0 word
 
 -- What is wrong with a word in the place of a number of at most `most`.
-unfoldable pub numberFault : ℕ → List ℕ → ℕ
+unfoldable pub numberFault : (most : ℕ) → List ℕ → ℕ
 numberFault most word = firstOf (not (allDigits word) gives NUMBER ∷ ltb most (valueOf word) gives LARGE ∷ [])
 
-unfoldable pub numberSaid : ℕ → List ℕ → Number
+unfoldable pub numberSaid : (most : ℕ) → List ℕ → Number
 numberSaid most word =
     record { fault = numberFault most word; value = pick (eqb (numberFault most word) 0) (valueOf word) 0 }
 
 -- What is left of a line says a number next. Without a word the fault is at its beginning, where the word before has ended.
-unfoldable pub fieldSaid : ℕ → List ℕ → Field
+unfoldable pub fieldSaid : (most : ℕ) → List ℕ → Field
 fieldSaid most line =
     pick (hasWord line)
     (record { fault = numberSaid most (wordOf line) .fault; place = blanksOf line; stop = wordEnd line; value = numberSaid most (wordOf line) .value })
     (record { fault = FEW; place = 0; stop = 0; value = 0 })
 
--- N and a processor, which stand first on their lines, are bytes; every other number has four.
+-- The most that number k of a line may be: N and a processor, which stand first, are bytes; every other number has four bytes.
 abbrev pub limit : ℕ → ℕ
 limit k = pick (eqb k 0) 255 4294967295
-
--- A value that passes 2 to the 32 counts as that.
-abbrev pub tooLarge : ℕ
-tooLarge = 4294967296
-
-abbrev pub capped : ℕ → ℕ
-capped v = pick (ltb tooLarge v) tooLarge v
-
--- The first line of what is left of a text.
-unfoldable pub cutOf : List ℕ → Cut
-cutOf text =
-    record {
-      stop = length (contentOf (firstLine text));
-      after = length (firstLine text) + 1;
-      worded = hasWord (contentOf (firstLine text));
-    }

@@ -10,8 +10,9 @@ ghost use Rattle.sheet.specs.Ranges.{mostRows, rowIn};
 ghost use Rattle.text.specs.Lines.{linesTo};
 ghost use Rattle.text.specs.Putting.{Puts};
 ghost use Rattle.sheet_text.specs.Faults.{faultAt};
-ghost use Rattle.sheet_text.specs.Words.{isBlank, isDigit, isMark, before, linesOf, hasWord, sameBytes, numberSaid, fieldSaid, limit, capped, cutOf};
-ghost use Rattle.sheet_text.specs.Meaning.{worded, mostNumbers, faultyNumbers, numbersSaid, firstLineSaid, rowNumbers, rowSaid, meantNothing, rowsMeant, mostBytes, meaningOf, Finds};
+ghost use Rattle.sheet_text.specs.Words.{isBlank, isDigit, isMark, before, linesOf, hasWord, sameBytes, numberSaid, fieldSaid, limit};
+ghost use Rattle.sheet_text.specs.Meaning.{worded, mostNumbers, faultyNumbers, numbersSaid, firstLineSaid, rowNumbers, rowSaid, meantNothing, rowsMeant, mostBytes, meaningOf};
+ghost use Rattle.sheet_text.specs.Parts.{capped, cutOf, Finds};
 ghost use Rattle.sheet_text.specs.Composing.{refusedText, answerOf, composeAnswer, composed, reason, answerLine};
 ghost use Rattle.sheet_text.specs.Listing.{rowText, rowTextOf, listing, listed};
 

@@ -3,7 +3,8 @@ use Prim.Native.Nat.{ℕ, _-_}
 use mathlib.Core.Bool.{true}
 use mathlib.Core.Path.{_≡_, ap, _∙_}
 use lib.ListN.{length, getD, drop, length-take, length-drop}
-use Rattle.sheet_text.specs.Meaning.{meantNothing, contentAt}
+use Rattle.sheet_text.specs.Meaning.{meantNothing}
+use Rattle.sheet_text.specs.Parts.{contentAt}
 use Rattle.sheet_text.specs.declared.Numbers.{Numbers}
 use Rattle.sheet_text.proofs.WordLaws.{from-not}
 use Rattle.sheet_text.proofs.TextLaws.{meaning-long, meaning-none, meaning-faulty, meaning-good, processors-byte}

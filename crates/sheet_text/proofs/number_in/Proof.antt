@@ -9,6 +9,7 @@ use mathlib.Core.Path.{_≡_, refl, sym, ap, _∙_}
 use mathlib.Core.List.{List}
 use lib.ListN.{length, drop}
 use Rattle.sheet_text.specs.Words as spec
+use Rattle.sheet_text.specs.Parts as parts
 use Rattle.sheet_text.proofs.WordLaws as laws
 use Rattle.sheet_text.proofs.number_in.Statement.{statement}
 use Rattle.sheet_text.proofs.number_in.Tie as tie
@@ -16,9 +17,9 @@ use Rattle.sheet_text.proofs.number_in.Tie as tie
 -- The bytes below i are digits as far as they tell, and the value so far is capped.
 record Going (word : List ℕ) (value i : ℕ) : Type 0 where
   within : i ≤ length word
-  most : value ≤ spec.tooLarge
+  most : value ≤ parts.tooLarge
   digits : spec.allDigits word ≡ spec.allDigits (drop i word)
-  value-is : spec.capped (spec.valueOf word) ≡ spec.capped (spec.valueFrom value (drop i word))
+  value-is : parts.capped (spec.valueOf word) ≡ parts.capped (spec.valueFrom value (drop i word))
 
 abbrev Inv-loop : tie.InvT-loop
 Inv-loop word most value₀ i₀ value i = Going word value i
@@ -81,20 +82,20 @@ loop-again c =
       digits = l .inv .digits ∙ laws.digits-more w (l .i) (omega arith) (is-digit a);
       value-is =
           l .inv .value-is
-          ∙ ap spec.capped (laws.value-more (l .value) w (l .i) (omega arith) ∙ ap (λ (x : ℕ). spec.valueFrom (l .value * 10 + x) (drop (l .i + 1) w)) (sym d))
+          ∙ ap parts.capped (laws.value-more (l .value) w (l .i) (omega arith) ∙ ap (λ (x : ℕ). spec.valueFrom (l .value * 10 + x) (drop (l .i + 1) w)) (sym d))
           ∙ laws.value-capped v (drop (l .i + 1) w)
-          ∙ ap (λ (x : ℕ). spec.capped (spec.valueFrom x (drop (l .i + 1) w))) (sym (c .cap .ensures));
+          ∙ ap (λ (x : ℕ). parts.capped (spec.valueFrom x (drop (l .i + 1) w))) (sym (c .cap .ensures));
     }
 
 -- At the end of the word.
 digits : (c : tie.After-loop Inv-loop μ-loop) → spec.allDigits (c .before .before .before .args .word .now) ≡ true
 digits c = c .before .loop .inv .digits ∙ laws.digits-end _ (c .before .loop .i) (omega arith)
 
-value-is : (c : tie.After-loop Inv-loop μ-loop) → spec.capped (spec.valueOf (c .before .before .before .args .word .now)) ≡ c .before .loop .value
+value-is : (c : tie.After-loop Inv-loop μ-loop) → parts.capped (spec.valueOf (c .before .before .before .args .word .now)) ≡ c .before .loop .value
 value-is c =
     let l = c .before .loop in
     l .inv .value-is
-    ∙ ap spec.capped (laws.value-end (l .value) (c .before .before .before .args .word .now) (l .i) (omega arith))
+    ∙ ap parts.capped (laws.value-end (l .value) (c .before .before .before .args .word .now) (l .i) (omega arith))
     ∙ laws.capped-low (l .value) (l .inv .most)
 
 no-number-requires-2 : tie.Need-no-number-requires-2 Inv-loop μ-loop
