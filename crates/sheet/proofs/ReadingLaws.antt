@@ -4,16 +4,18 @@ use mathlib.Core.List.{List}
 use Prim.Native.Nat.{ℕ, zero, suc, _+_, _-_, _<_, _≤_}
 use native.Mathlib.Omega.{arith}
 use native.Mathlib.Decide.{ℕ-discrete}
-use lib.ListN.{length, take, drop, length-take, length-drop}
+use lib.ListN.{length, take, drop, set, replicate, length-take, length-drop}
 use borrow.Author.Tests.{ltb-false, eqb-true, not-false, eq-eqb, ne-eqb}
 use Rattle.laws.specs.Choice.{firstOf}
 use Rattle.laws.specs.ChoiceLaws.{past}
-use Rattle.laws.specs.TabulateLaws.{padded-at, padded-rest}
+use Rattle.laws.specs.Tabulate.{padded}
+use Rattle.laws.specs.TabulateLaws.{padded-none, padded-more, padded-at, padded-rest}
 use Rattle.sheet.specs.Refusals.{refused, accepted}
 use Rattle.sheet.specs.Layout.{versionOf, statedLength, processorsOf, countOf, lengthFor, lengthByte, recordStart, rowStart, rowAt}
 use Rattle.sheet.specs.Ranges.{mostRows, rowFault, before, firstFault, zeroRow, zeroSet, rowIn, InRange, WellFormed}
 use Rattle.sheet.specs.Reading.{headerFault, recordFault, readRefusal, setOf, readSheet, rowOfPart}
 use Rattle.sheet.specs.declared.Row.{Row}
+use Rattle.sheet.specs.declared.Set.{Set}
 use Rattle.sheet.specs.declared.Refusal.{Refusal}
 use Rattle.sheet.specs.declared.Reading.{Reading}
 use Rattle.sheet.proofs.Faults as faults
@@ -96,6 +98,45 @@ read-refused s r e h = rw (← e, ne-eqb (r .number) 0 h)
 pub read-accepted : (s : List ℕ) (r : Refusal) → r ≡ readRefusal s → r .number ≡ 0 → record { refusal = r; set = setOf s } ≡ readSheet s
 unfolding readSheet
 read-accepted s r e h = rw (← e, eq-eqb (r .number) 0 h)
+
+-- A set of n rows of which the first i are stored.
+abbrev pub storedTo : List ℕ → ℕ → ℕ → ℕ → Set
+storedTo s N n i = record { processors = N; count = n; rows = padded mostRows i (rowAt s) zeroRow }
+
+pub stored-none : (s : List ℕ) (N n : ℕ) → record { processors = N; count = n; rows = replicate mostRows zeroRow } ≡ storedTo s N n 0
+stored-none s N n = ap (λ (rows : List Row). record { processors = N; count = n; rows = rows }) (padded-none (rowAt s) zeroRow mostRows)
+
+pub stored-more : (s : List ℕ) (N n i : ℕ) → i < mostRows → record { processors = N; count = n; rows = set (storedTo s N n i .rows) i (rowAt s i) } ≡ storedTo s N n (i + 1)
+stored-more s N n i l = ap (λ (rows : List Row). record { processors = N; count = n; rows = rows }) (padded-more (rowAt s) zeroRow mostRows i l)
+
+-- What a reading begins with: the numbers that a sheet states where it reads, and otherwise no row at all. Storing the rows leads to
+-- the set that is handed back.
+pub record Begun (s : List ℕ) (N n : ℕ) : Type 0 where
+  pub few : n ≤ mostRows
+  pub long : (i : ℕ) → i < n → rowStart i + 17 ≤ length s
+  pub leads : storedTo s N n n ≡ readSheet s .set
+
+pub begun-refused : (s : List ℕ) (r : Refusal) → r ≡ readRefusal s → (r .number ≡ 0 → ⊥) → Begun s 0 0
+begun-refused s r e h =
+    record {
+      few = omega arith;
+      long = λ i l. absurd (omega (arith, l));
+      leads = sym (stored-none s 0 0) ∙ ap (λ (x : Reading). x .set) (read-refused s r e h);
+    }
+
+pub begun-accepted : (s : List ℕ) (r : Refusal) → r ≡ readRefusal s → r .number ≡ 0 → Begun s (processorsOf s) (countOf s)
+unfolding setOf
+begun-accepted s r e h =
+    let k = reads s (ap (λ (x : Refusal). x .number) (sym e) ∙ h) in
+    record {
+      few = k .head .rows;
+      long = λ i l. omega (arith, l, k .head .whole);
+      leads = ap (λ (x : Reading). x .set) (read-accepted s r e h);
+    }
+
+pub read-as : (s : List ℕ) (r : Refusal) (x : Set) → r ≡ readRefusal s → x ≡ readSheet s .set → record { refusal = r; set = x } ≡ readSheet s
+unfolding readSheet
+read-as s r x e f = rw (e, f)
 
 -- The rows of the set that a sheet says.
 pub row-in : (s : List ℕ) (i : ℕ) → countOf s ≤ 32 → i < countOf s → rowIn (setOf s) i ≡ rowAt s i

@@ -1,12 +1,11 @@
 // The sheet: read from bytes, one row shown, written to bytes.
 ghost use mathlib.Core.Path.{_≡_};
-ghost use Prim.Native.Nat.{_+_, _*_, _<_, _≤_};
+ghost use Prim.Native.Nat.{_+_, _<_, _≤_};
 ghost use lib.ListN.{length};
 ghost use lib.Seq.{sets};
-ghost use Rattle.laws.specs.Tabulate.{padded};
 ghost use Rattle.sheet.specs.Refusals.{refused};
-ghost use Rattle.sheet.specs.Layout.{wordAt, rowAt, lengthFor};
-ghost use Rattle.sheet.specs.Ranges.{mostRows, countFault, rowFault, setRefusal, zeroRow, zeroSet};
+ghost use Rattle.sheet.specs.Layout.{wordAt};
+ghost use Rattle.sheet.specs.Ranges.{countFault, rowFault, setRefusal, zeroRow, zeroSet};
 ghost use Rattle.sheet.specs.Reading.{headerFault, readRefusal, readSheet, rowOfPart};
 ghost use Rattle.sheet.specs.Showing.{Shown};
 ghost use Rattle.sheet.specs.Writing.{wordBytes, recordBytes, writeRefusal, written};
@@ -221,39 +220,33 @@ fn check(sheet: &[u8]) -> Refusal
     refuse(refusals::ACCEPTED, 0)
 }
 
-// The rows of a sheet that reads, and zero rows past them.
-fn take_rows(sheet: &[u8], count: usize) -> [Row; 32]
-    requires { ⌜ (count ≤ mostRows) × (lengthFor count ≤ length (now sheet)) ⌝ }
-    ensures { λ r. ⌜ r ≡ padded mostRows count (rowAt (now (sheet .entry))) zeroRow ⌝ }
-{
-    let mut rows = [no_row(); MOST_ROWS];
-    let mut i: usize = 0;
-    while i < count {
-        let at = HEADER_BYTES + RECORD_BYTES * i;
-        rows[i] = row_of(&sheet[at + 1..at + RECORD_BYTES]);
-        i += 1;
-    }
-    rows
-}
-
+// A refused sheet gives a set without rows, so that one loop and one way out serve both. Each row is stored in the set that is handed
+// back: rows gathered in an array of their own would be copied once more.
 pub fn read(sheet: &[u8]) -> Reading
     ensures { λ r. ⌜ r ≡ readSheet (now (sheet .entry)) ⌝ }
 {
     let refusal = check(sheet);
-    if refusal.number != refusals::ACCEPTED {
-        return Reading {
-            refusal: refusal,
-            set: no_set(),
-        };
+    let mut processors: u8 = 0;
+    let mut count: usize = 0;
+    if refusal.number == refusals::ACCEPTED {
+        processors = sheet[3];
+        count = sheet[4] as usize;
     }
-    let count = sheet[4] as usize;
+    let rows = [no_row(); MOST_ROWS];
+    let mut set = Set {
+        processors: processors,
+        count: count,
+        rows: rows,
+    };
+    let mut i: usize = 0;
+    while i < count {
+        let at = HEADER_BYTES + RECORD_BYTES * i;
+        set.rows[i] = row_of(&sheet[at + 1..at + RECORD_BYTES]);
+        i += 1;
+    }
     Reading {
         refusal: refusal,
-        set: Set {
-            processors: sheet[3],
-            count: count,
-            rows: take_rows(sheet, count),
-        },
+        set: set,
     }
 }
 
