@@ -7,7 +7,7 @@ use native.Mathlib.Omega.{arith}
 use lib.ListN.{getD}
 use native.Mathlib.Numerals.{add-one}
 use native.Mathlib.Decide.{ℕ-discrete}
-use borrow.Author.Tests.{ltb-true, leb-true, eqb-true, lt-ltb, le-ltb, le-leb, eq-eqb}
+use borrow.Author.Tests.{ltb-true, leb-true, eqb-true, lt-ltb, le-ltb, le-leb, eq-eqb, ne-eqb}
 use lib.Dec.{ltb, leb, eqb}
 use Rattle.laws.specs.ChoiceLaws.{pick-true, pick-false, true-not-false}
 use Rattle.laws.specs.SearchLaws.{all-at, all-of}
@@ -124,13 +124,13 @@ module _ (s : State) where
       record { head = h; within = omega arith; before-is = refl; row = λ k l. absurd (omega (arith, l)); job = λ k l. absurd (omega (arith, l)) }
 
   module _ (last i : ℕ) (c : Checked last i) (l : i < s .set .count) where
-    abbrev pub rowPasses : Bool
-    rowPasses = eqb (rowFault (s .set .processors) last (rowAt s i)) 0
+    abbrev pub fault : ℕ
+    fault = rowFault (s .set .processors) last (rowAt s i)
 
     abbrev pub jobPasses : Bool
     jobPasses = jobFits (s .clock) (rowAt s i) (inHand s i) (jobAt s i)
 
-    fault-is : rowFault (s .set .processors) last (rowAt s i) ≡ setRowFault (s .set) i
+    fault-is : fault ≡ setRowFault (s .set) i
     unfolding setRowFault
     fault-is = ap (λ (b : ℕ). rowFault (s .set .processors) b (rowAt s i)) (c .before-is)
 
@@ -138,18 +138,17 @@ module _ (s : State) where
     unfolding rowFits
     job-is = pick-true _ _ _ (lt-ltb _ _ l)
 
-    pub row-fails : rowPasses ≡ false → false ≡ shapeOk s
-    row-fails e = refuted s rowPasses (λ k. eq-eqb _ _ (fault-is ∙ writing.set-rows (s .set) (k .set) i l)) e
+    pub row-fails : (fault ≡ 0 → ⊥) → false ≡ shapeOk s
+    row-fails h = refuted s (eqb fault 0) (λ k. eq-eqb _ _ (fault-is ∙ writing.set-rows (s .set) (k .set) i l)) (ne-eqb fault 0 h)
 
     pub job-fails : jobPasses ≡ false → false ≡ shapeOk s
     job-fails e = refuted s jobPasses (λ k. sym job-is ∙ k .row i (omega (arith, c .head .counts .rows))) e
 
-    pub on-board : rowPasses ≡ true → processorAt s i < mostProcessors
+    pub on-board : fault ≡ 0 → processorAt s i < mostProcessors
     unfolding rowFault
-    on-board e =
-        omega (arith, faults.in-range (s .set .processors) last (rowAt s i) (eqb-true (rowFault (s .set .processors) last (rowAt s i)) 0 e) .below, c .head .counts .few)
+    on-board e = omega (arith, faults.in-range (s .set .processors) last (rowAt s i) e .below, c .head .counts .few)
 
-    pub checked-more : rowPasses ≡ true → jobPasses ≡ true → Checked (processorAt s i) (i + 1)
+    pub checked-more : fault ≡ 0 → jobPasses ≡ true → Checked (processorAt s i) (i + 1)
     checked-more e f =
         record {
           head = c .head;
@@ -160,7 +159,7 @@ module _ (s : State) where
         }
       where
         row : (k : ℕ) → k < i + 1 → Dec (k ≡ i) → setRowFault (s .set) k ≡ 0
-        row k m (yes p) = rw p (sym fault-is ∙ eqb-true _ _ e)
+        row k m (yes p) = rw p (sym fault-is ∙ e)
         row k m (no n) = c .row k (omega (arith, n))
 
         job : (k : ℕ) → k < i + 1 → Dec (k ≡ i) → rowFits s k ≡ true

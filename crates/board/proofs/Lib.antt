@@ -7,7 +7,7 @@ pub mod Kept
 pub mod Working
 pub mod Determined
 pub mod Standings
-pub mod Ranging
+pub mod Zeros
 pub mod Checking
 pub mod Rows
 pub mod Gathering

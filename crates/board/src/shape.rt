@@ -1,4 +1,4 @@
-// The shape of a state. The tests are joined by `&`, which is faster here than a branch for each.
+// The shape of a state.
 use crate::Hand;
 use crate::Job;
 use crate::Place;
@@ -6,37 +6,21 @@ use crate::Standing;
 use sheet::Row;
 use sheet::Set;
 ghost use mathlib.Core.Path.{_≡_};
-ghost use lib.Dec.{eqb};
-ghost use Rattle.sheet.specs.Ranges.{rowFault};
 ghost use Rattle.board.specs.States.{isAbsent, holds};
 ghost use Rattle.board.specs.Shape.{rowIsZero, absentWithZeros, jobIsZero, standingFits, jobFits, shapeOk};
 ghost use Rattle.board.specs.Parts.{rowOr, handIsOwn};
 
-const MOST_TICKS: u32 = 1000000;
-
-// Refusals 6 to 9 do not apply to the row, after a row on the processor `before`.
-fn row_passes(processors: u8, before: u8, row: Row) -> bool
-    ensures { λ r. ⌜ r ≡ eqb (rowFault processors before row) 0 ⌝ }
-{
-    (row.processor < processors)
-        & (before <= row.processor)
-        & (1 <= row.period)
-        & (row.period <= MOST_TICKS)
-        & (1 <= row.deadline)
-        & (row.deadline <= row.period)
-        & (row.memory <= MOST_TICKS)
-        & (row.computation <= MOST_TICKS)
-        & ((1 <= row.memory) | (1 <= row.computation))
-}
-
+// Numbers are all 0 exactly if their sum is. One test of the sum, here and below: tests of each number would become vector code, and
+// that may be slow.
 fn row_is_zero(row: Row) -> bool
     ensures { λ r. ⌜ r ≡ rowIsZero row ⌝ }
 {
-    (row.processor == 0)
-        & (row.memory == 0)
-        & (row.computation == 0)
-        & (row.period == 0)
-        & (row.deadline == 0)
+    row.processor as u64
+        + row.memory as u64
+        + row.computation as u64
+        + row.period as u64
+        + row.deadline as u64
+        == 0
 }
 
 pub(crate) fn is_absent(standing: Standing) -> bool
@@ -54,7 +38,7 @@ fn absent_with_zeros(job: Job) -> bool
     ensures { λ r. ⌜ r ≡ absentWithZeros job ⌝ }
 {
     let standing = job.standing;
-    is_absent(standing) & (job.last == 0) & (job.worst == 0) & (job.completed == 0)
+    is_absent(standing) & (job.last as u64 + job.worst as u64 + job.completed as u64 == 0)
 }
 
 fn job_is_zero(job: Job) -> bool
@@ -130,7 +114,7 @@ pub(crate) fn state_fits(set: Set, clock: u32, places: [Place; 8], jobs: [Job; 3
     while i < count {
         let row = set.rows[i];
         let job = jobs[i];
-        if !row_passes(processors, before, row) {
+        if sheet::row_fault(processors, before, row) != sheet::refusals::ACCEPTED {
             return false;
         }
         let p = row.processor as usize;

@@ -5,7 +5,7 @@ use Prim.Native.Nat.{ℕ}
 use lib.ListN.{length}
 use denote.Ref.{RefT, ptr, now}
 use Rattle.sheet.specs.Refusals.{refused}
-use Rattle.sheet.specs.Ranges.{zeroRow, zeroSet}
+use Rattle.sheet.specs.Ranges.{rowFault, zeroRow, zeroSet}
 use Rattle.sheet.specs.Reading.{readSheet, rowOfPart}
 use Rattle.sheet.specs.Showing.{Shown}
 use Rattle.sheet.specs.Writing.{writeRefusal, written}
@@ -32,6 +32,9 @@ pub write-determined : (set : Set) (before : List ℕ) (a b : Refusal) (after af
     → (b ≡ writeRefusal set (length before)) × (after′ ≡ written set before)
     → (a ≡ b) × (after ≡ after′)
 write-determined set before a b after after′ p q = (same (p .0) (q .0), same (p .1) (q .1))
+
+pub row-fault-determined : (N before : ℕ) (row : Row) (a b : ℕ) → a ≡ rowFault N before row → b ≡ rowFault N before row → a ≡ b
+row-fault-determined N before row a b = same
 
 pub refuse-determined : (number row : ℕ) (a b : Refusal) → a ≡ refused number row → b ≡ refused number row → a ≡ b
 refuse-determined number row a b = same

@@ -115,7 +115,8 @@ pub fn row_of(part: &[u8]) -> Row
     }
 }
 
-fn row_fault(processors: u8, before: u8, row: Row) -> u8
+// What is wrong with a row, after a row on the processor `before`.
+pub fn row_fault(processors: u8, before: u8, row: Row) -> u8
     ensures { λ r. ⌜ r ≡ rowFault processors before row ⌝ }
 {
     if processors <= row.processor {

@@ -1,11 +1,51 @@
-use mathlib.Core.Path.{refl}
 use Rattle.board.specs.Shape.{rowIsZero}
+use Rattle.board.proofs.Zeros.{sum-zero}
+use borrow.Author.Needs.{needs}
 use Rattle.board.proofs.shape.row_is_zero.Statement.{statement}
 use Rattle.board.proofs.shape.row_is_zero.Tie as tie
 
+cast-result : tie.Need-cast-result
+cast-result c = search needs
+
+cast-result-2 : tie.Need-cast-result-2
+cast-result-2 c = search needs
+
+add-result : tie.Need-add-result
+add-result c = search needs
+
+cast-result-3 : tie.Need-cast-result-3
+cast-result-3 c = search needs
+
+add-result-2 : tie.Need-add-result-2
+add-result-2 c = search needs
+
+cast-result-4 : tie.Need-cast-result-4
+cast-result-4 c = search needs
+
+add-result-3 : tie.Need-add-result-3
+add-result-3 c = search needs
+
+cast-result-5 : tie.Need-cast-result-5
+cast-result-5 c = search needs
+
+add-result-4 : tie.Need-add-result-4
+add-result-4 c = search needs
+
 returns : tie.Need-returns
 unfolding rowIsZero
-returns c = refl
+returns c = simp sum-zero
 
 pub row-is-zero-spec : {M : Type 1} → statement M
-row-is-zero-spec = tie.close (tie.spec returns)
+row-is-zero-spec =
+    tie.close
+    (tie.spec
+    cast-result
+    cast-result-2
+    add-result
+    cast-result-3
+    add-result-2
+    cast-result-4
+    add-result-3
+    cast-result-5
+    add-result-4
+    returns)

@@ -45,14 +45,14 @@ array-copy-out-job :
     tie.Need-array-copy-out-job Inv-loop μ-loop Inv-loop2 μ-loop2 Inv-loop3 μ-loop3
 array-copy-out-job c = omega (arith, c .before .before .loop .inv .head .counts .rows)
 
-row-passes-requires :
-    tie.Need-row-passes-requires Inv-loop μ-loop Inv-loop2 μ-loop2 Inv-loop3 μ-loop3
-row-passes-requires c κs = search needs
+row-fault-requires :
+    tie.Need-row-fault-requires Inv-loop μ-loop Inv-loop2 μ-loop2 Inv-loop3 μ-loop3
+row-fault-requires c κs = search needs
 
 returns-2 : tie.Need-returns-2 Inv-loop μ-loop Inv-loop2 μ-loop2 Inv-loop3 μ-loop3
 returns-2 c =
     let w = c .before .before .before .before in
-    row-fails _ _ _ (w .before .loop .inv) (w .loop-test .taken) (sym (c .before .row-passes .ensures) ∙ not-true _ (c .if2 .taken))
+    row-fails _ _ _ (w .before .loop .inv) (w .loop-test .taken) (λ e. c .if2 .taken (c .before .row-fault .ensures ∙ e))
 
 cast-p : tie.Need-cast-p Inv-loop μ-loop Inv-loop2 μ-loop2 Inv-loop3 μ-loop3
 cast-p c = search needs
@@ -65,7 +65,7 @@ array-copy-out-place :
 array-copy-out-place c =
     let e = c .before in
     let w = e .before .before .before .before in
-    on-board _ _ _ (w .before .loop .inv) (w .loop-test .taken) (sym (e .before .row-passes .ensures) ∙ not-false _ (e .if2 .left))
+    on-board _ _ _ (w .before .loop .inv) (w .loop-test .taken) (sym (e .before .row-fault .ensures) ∙ e .if2 .left)
 
 cast-holds-row : tie.Need-cast-holds-row Inv-loop μ-loop Inv-loop2 μ-loop2 Inv-loop3 μ-loop3
 cast-holds-row c = search needs
@@ -92,7 +92,7 @@ loop-again : tie.Need-loop-again Inv-loop μ-loop Inv-loop2 μ-loop2 Inv-loop3 �
 loop-again c =
     let w = c .before .before .before .before .before .before .before .before .before in
     let e = c .before .before .before .before .before in
-    checked-more _ _ _ (w .before .loop .inv) (w .loop-test .taken) (sym (e .before .row-passes .ensures) ∙ not-false _ (e .if2 .left)) (sym (rw (c .before .before .holds-row .ensures) at (c .before .job-fits .ensures)) ∙ not-false _ (c .if3 .left))
+    checked-more _ _ _ (w .before .loop .inv) (w .loop-test .taken) (sym (e .before .row-fault .ensures) ∙ e .if2 .left) (sym (rw (c .before .before .holds-row .ensures) at (c .before .job-fits .ensures)) ∙ not-false _ (c .if3 .left))
 
 loop2-holds : tie.Need-loop2-holds Inv-loop μ-loop Inv-loop2 μ-loop2 Inv-loop3 μ-loop3
 loop2-holds c = zeroed-none _ _ _ (c .before .loop .inv) (c .loop-test .left)
@@ -200,7 +200,7 @@ state-fits-spec =
     element-copy-out-row
     mul-job
     array-copy-out-job
-    row-passes-requires
+    row-fault-requires
     returns-2
     cast-p
     mul-place
