@@ -1,14 +1,14 @@
 -- The answers of start, release and tick, case by case.
-use Prim.Native.Nat.{ℕ, _≤_, _<_}
+use Prim.Native.Nat.{ℕ, _+_, _-_, _≤_, _<_}
 use mathlib.Core.Path.{_≡_, refl, sym, ap, _∙_}
-use mathlib.Core.Bool.{Bool, true, false}
+use mathlib.Core.Bool.{Bool, true, false, _&&_}
 use mathlib.Core.List.{List, []}
-use borrow.Author.Tests.{lt-leb, le-leb, ne-eqb, eqb-false, not-false}
+use borrow.Author.Tests.{lt-ltb, le-ltb, lt-leb, le-leb, ne-eqb, eqb-false, not-false}
 use native.Mathlib.Omega.{arith}
-use native.Mathlib.Decide.{ℕ-discrete}
+use native.Mathlib.Decide.{ℕ-discrete, decLt}
 use lib.ListN.{length, getD, set, length-set, replicate, length-replicate, getD-replicate}
 use lib.Seq.{ext-getD, getD-set-same, getD-set-other}
-use lib.Dec.{eqb}
+use lib.Dec.{eqb, ltb}
 use Rattle.laws.specs.Choice.{pick, firstOf}
 use Rattle.laws.specs.ChoiceLaws.{pick-false, passed}
 use Rattle.laws.specs.TabulateLaws.{set-tab}
@@ -20,8 +20,7 @@ use Rattle.board.specs.declared.State.{State}
 use Rattle.board.specs.declared.Started.{Started}
 use Rattle.board.specs.States.{mostClock, noJob, rowAt, jobAt, startSet, zeroState}
 use Rattle.board.specs.Shape.{shapeOk}
-use Rattle.board.specs.Calls.{startReading, startOf, tooEarly, releaseNumber, waitingFrom, released, releaseOf, tickNumber, ticked, unticked, tickOf}
-use Rattle.board.specs.Parts.{releaseNumberOf}
+use Rattle.board.specs.Calls.{startReading, startOf, isEarly, releaseTable, releaseNumber, waitingFrom, released, releaseOf, tickNumber, ticked, unticked, tickOf}
 use Rattle.board.proofs.ShapeFacts.{shaped}
 
 -- A job stored where it stands already.
@@ -47,6 +46,14 @@ start-fresh sheet = go (accepts (readRefusal sheet))
     go true = refl
     go false = refl
 
+-- Less than T ticks ago, by the difference that the code takes.
+pub early-is : (clock period : ℕ) (job : Job) → job .last ≤ clock → isEarly clock period job ≡ (job .ever && ltb (clock - job .last) period)
+early-is clock period job l = ap (λ (b : Bool). job .ever && b) (go (decLt clock (job .last + period)))
+  where
+    go : Dec (clock < job .last + period) → ltb clock (job .last + period) ≡ ltb (clock - job .last) period
+    go (yes h) = rw (lt-ltb clock (job .last + period) h, lt-ltb (clock - job .last) period (omega arith))
+    go (no h) = rw (le-ltb clock (job .last + period) (omega arith), le-ltb (clock - job .last) period (omega arith))
+
 -- Release.
 module _ (s : State) (i : ℕ) where
   numbered : (n : ℕ) → releaseNumber s i ≡ n → releaseOf s i ≡ record { state = pick (eqb n 0) (released s i) s; answer = refused n 0 }
@@ -63,10 +70,10 @@ module _ (s : State) (i : ℕ) where
 
   module _ (h : shapeOk s ≡ true) (l : i < s .set .count) where
     abbrev number : ℕ
-    number = releaseNumberOf (s .clock) (rowAt s i .period) (jobAt s i)
+    number = firstOf (releaseTable (s .clock) (rowAt s i .period) (jobAt s i))
 
     number-is : releaseNumber s i ≡ number
-    unfolding releaseNumber releaseNumberOf tooEarly firstOf
+    unfolding releaseNumber firstOf
     number-is = rw (h, lt-leb (s .set .count) i l)
 
     pub release-stays : (n : ℕ) → n ≡ number → (n ≡ 0 → ⊥) → releaseOf s i ≡ record { state = s; answer = refused n 0 }

@@ -17,7 +17,7 @@ use Rattle.board.specs.declared.Hand.{Hand}
 use Rattle.board.specs.declared.Standing.the-variants.{Absent}
 use Rattle.board.specs.States.{mostClock, rowAt, jobAt, standingAt, isAbsent, holds, inHand, startSet}
 use Rattle.board.specs.Rules.{taken, ran}
-use Rattle.board.specs.Calls.{tooEarly, releaseNumber, waitingFrom, released, releaseOf, tickNumber, ticked, unticked, tickOf}
+use Rattle.board.specs.Calls.{isEarly, releaseNumber, waitingFrom, released, releaseOf, tickNumber, ticked, unticked, tickOf}
 use Rattle.board.proofs.ShapeFacts.{Stands, Kept, Shaped, shaped, set-well-formed, absent-facts}
 use Rattle.board.proofs.Pointwise.{taken-clock, released-job, released-other, start-job, start-hand, start-set, start-clock}
 use Rattle.board.proofs.Taking.{take-keeps}
@@ -46,10 +46,9 @@ pub record MayRelease (s : State) (i : ℕ) : Type 0 where
   pub not-early : jobAt s i .ever ≡ true → jobAt s i .last + rowAt s i .period ≤ s .clock
   pub absent : standingAt s i ≡ Absent
 
-pub not-early-facts : (s : State) (i : ℕ) → jobAt s i .last ≤ s .clock → tooEarly s i ≡ false → jobAt s i .ever ≡ true → jobAt s i .last + rowAt s i .period ≤ s .clock
-unfolding tooEarly
-not-early-facts s i l h e =
-    omega (arith, ltb-false (s .clock - jobAt s i .last) (rowAt s i .period) (sym (ap (λ (b : Bool). b && ltb (s .clock - jobAt s i .last) (rowAt s i .period)) e) ∙ h), l)
+pub not-early-facts : (s : State) (i : ℕ) → isEarly (s .clock) (rowAt s i .period) (jobAt s i) ≡ false → jobAt s i .ever ≡ true → jobAt s i .last + rowAt s i .period ≤ s .clock
+not-early-facts s i h e =
+    ltb-false (s .clock) (jobAt s i .last + rowAt s i .period) (sym (ap (λ (b : Bool). b && ltb (s .clock) (jobAt s i .last + rowAt s i .period)) e) ∙ h)
 
 pub may-release : (s : State) (i : ℕ) → releaseNumber s i ≡ 0 → MayRelease s i
 unfolding releaseNumber
@@ -63,7 +62,7 @@ may-release s i h =
     record {
       shape = f;
       below = n;
-      not-early = not-early-facts s i (f .row i n .last) (p3 .0);
+      not-early = not-early-facts s i (p3 .0);
       absent = absent-facts (standingAt s i) (not-false _ (p4 .0));
     }
 
@@ -180,7 +179,7 @@ found-live s i h =
     record {
       shape = f;
       below = n;
-      not-early = not-early-facts s i (f .row i n .last) (p3 .0);
+      not-early = not-early-facts s i (p3 .0);
       live = not-true _ (given _ _ (p3 .1));
     }
 

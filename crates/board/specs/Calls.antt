@@ -1,9 +1,9 @@
 -- The calls: start, release and tick. The first refusal that applies is given; a refusal hands the state back unchanged.
-use Prim.Native.Nat.{ℕ, _-_}
+use Prim.Native.Nat.{ℕ, _+_}
 use mathlib.Core.Bool.{Bool, true, not, _&&_}
 use mathlib.Core.List.{List, [], _∷_}
 use lib.Dec.{ltb, leb, eqb}
-use Rattle.laws.specs.Choice.{pick, _gives_, firstOf}
+use Rattle.laws.specs.Choice.{pick, Line, _gives_, firstOf}
 use Rattle.laws.specs.Tabulate.{tab}
 use Rattle.sheet.specs.Refusals.{STATE, ROW, EARLY, LIVE, CLOCK, refused, accepted, accepts}
 use Rattle.sheet.specs.Ranges.{mostRows}
@@ -17,7 +17,7 @@ use Rattle.board.specs.declared.Beat.{Beat}
 use Rattle.board.specs.declared.Ticked.{Ticked}
 use Rattle.board.specs.declared.Standing.the-variants.{Waiting}
 use Rattle.board.specs.declared.Token.the-variants.{Nobody}
-use Rattle.board.specs.States.{mostClock, rowAt, jobAt, standingAt, isAbsent, startSet, zeroState}
+use Rattle.board.specs.States.{mostClock, rowAt, jobAt, isAbsent, startSet, zeroState}
 use Rattle.board.specs.Shape.{shapeOk}
 use Rattle.board.specs.Rules.{taken, tokenAt, tokenNamed, ran, completedRows}
 
@@ -28,10 +28,13 @@ startReading r = record { state = pick (accepts (r .refusal)) (startSet (r .set)
 unfoldable pub startOf : List ℕ → Started
 startOf sheet = startReading (readSheet sheet)
 
--- The row has been released before, less than T ticks ago. A difference below zero counts as 0 here, which the paper's does not;
--- under the shape, which is tested before, the last release is at most the clock and the two agree.
-unfoldable pub tooEarly : State → ℕ → Bool
-tooEarly s i = jobAt s i .ever && ltb (s .clock - jobAt s i .last) (rowAt s i .period)
+-- The row has been released before, less than T ticks ago.
+abbrev pub isEarly : (clock period : ℕ) → Job → Bool
+isEarly clock period job = job .ever && ltb clock (job .last + period)
+
+-- What is wrong with a release of the row at that clock: 15, 16.
+abbrev pub releaseTable : (clock period : ℕ) → Job → List Line
+releaseTable clock period job = isEarly clock period job gives EARLY ∷ not (isAbsent (job .standing)) gives LIVE ∷ []
 
 -- Release: 13, 14, 15, 16.
 unfoldable pub releaseNumber : State → ℕ → ℕ
@@ -39,9 +42,7 @@ releaseNumber s i =
     firstOf
     (not (shapeOk s) gives STATE
     ∷ leb (s .set .count) i gives ROW
-    ∷ tooEarly s i gives EARLY
-    ∷ not (isAbsent (standingAt s i)) gives LIVE
-    ∷ [])
+    ∷ releaseTable (s .clock) (rowAt s i .period) (jobAt s i))
 
 -- A release makes the job waiting.
 abbrev pub waitingFrom : ℕ → Job → Job
@@ -61,8 +62,11 @@ releaseOf s i =
     record { state = pick (eqb (releaseNumber s i) 0) (released s i) s; answer = refused (releaseNumber s i) 0 }
 
 -- Tick: 13, 17.
+abbrev pub tickTable : (fits : Bool) (clock : ℕ) → List Line
+tickTable fits clock = not fits gives STATE ∷ eqb clock mostClock gives CLOCK ∷ []
+
 unfoldable pub tickNumber : State → ℕ
-tickNumber s = firstOf (not (shapeOk s) gives STATE ∷ eqb (s .clock) mostClock gives CLOCK ∷ [])
+tickNumber s = firstOf (tickTable (shapeOk s) (s .clock))
 
 -- The answer names the token's processor or none, and the completed rows.
 unfoldable pub ticked : State → Ticked

@@ -1,11 +1,8 @@
 -- What the private functions compute. The calls' own definitions stand in Shape, Rules and Calls.
-use Prim.Native.Nat.{ℕ, _-_, _≤_, _<_}
+use Prim.Native.Nat.{ℕ, _≤_, _<_}
 use mathlib.Core.Path.{_≡_}
-use mathlib.Core.Bool.{Bool, true, false, not, _&&_}
-use mathlib.Core.List.{[], _∷_}
-use lib.Dec.{ltb, eqb}
-use Rattle.laws.specs.Choice.{pick, _gives_, firstOf}
-use Rattle.sheet.specs.Refusals.{STATE, EARLY, LIVE, CLOCK}
+use mathlib.Core.Bool.{Bool, true, false, _&&_}
+use Rattle.laws.specs.Choice.{pick}
 use Rattle.sheet.specs.declared.Row.{Row}
 use Rattle.board.specs.declared.Job.{Job}
 use Rattle.board.specs.declared.Turn.{Turn}
@@ -13,6 +10,7 @@ use Rattle.board.specs.declared.Hand.{Hand}
 use Rattle.board.specs.declared.Hand.the-variants.{Free, Holds}
 use Rattle.board.specs.declared.Standing.{Standing}
 use Rattle.board.specs.States.{mostClock, isAbsent, isMemory}
+use Rattle.board.specs.Shape.{ownRow}
 use Rattle.board.specs.Rules.{standAs, begins, steps, finishes, finished}
 
 -- The row in a hand; another number where there is none.
@@ -20,10 +18,10 @@ abbrev pub rowOr : Hand → ℕ → ℕ
 rowOr Free other = other
 rowOr (Holds i) other = i
 
--- A hand of processor p: none, or a row below `count` that stands on p, which is below `processors`.
+-- A hand of processor p, where the row in it stands on the processor `on`.
 abbrev pub handIsOwn : Hand → (on p count processors : ℕ) → Bool
 handIsOwn Free on p count processors = true
-handIsOwn (Holds i) on p count processors = ltb i count && eqb on p && ltb p processors
+handIsOwn (Holds i) on p count processors = ownRow i on p count processors
 
 -- A job that can go on for a tick.
 pub record Timely (clock : ℕ) (job : Job) : Type 0 where
@@ -54,12 +52,3 @@ turnOf k row job free clock =
       token = tokenIn row job free;
       done = doneIn row job free;
     }
-
--- Tick: 13, 17, by whether the state has the shape.
-unfoldable pub tickNumberOf : Bool → ℕ → ℕ
-tickNumberOf fits clock = firstOf (not fits gives STATE ∷ eqb clock mostClock gives CLOCK ∷ [])
-
--- Release of a row below n in a state of the shape: 15, 16.
-unfoldable pub releaseNumberOf : (clock period : ℕ) → Job → ℕ
-releaseNumberOf clock period job =
-    firstOf ((job .ever && ltb (clock - job .last) period) gives EARLY ∷ not (isAbsent (job .standing)) gives LIVE ∷ [])

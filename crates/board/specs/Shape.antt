@@ -55,9 +55,12 @@ rowFits s i =
     pick (ltb i (s .set .count)) (jobFits (s .clock) (rowAt s i) (inHand s i) (jobAt s i)) (rowIsZero (rowAt s i) && jobIsZero (jobAt s i))
 
 -- A processor p holds none or one of its own rows below n; processors from N on hold none.
+abbrev pub ownRow : (i on p n N : ℕ) → Bool
+ownRow i on p n N = ltb i n && eqb on p && ltb p N
+
 unfoldable pub handFits : State → ℕ → Hand → Bool
 handFits s p Free = true
-handFits s p (Holds i) = ltb i (s .set .count) && eqb (processorAt s i) p && ltb p (s .set .processors)
+handFits s p (Holds i) = ownRow i (processorAt s i) p (s .set .count) (s .set .processors)
 
 unfoldable pub shapeOk : State → Bool
 shapeOk s =

@@ -8,9 +8,11 @@ use crate::Turn;
 use sheet::Row;
 ghost use mathlib.Core.Path.{_≡_};
 ghost use Prim.Native.Nat.{_-_, _≤_};
+ghost use Rattle.laws.specs.Choice.{firstOf};
 ghost use Rattle.board.specs.States.{isWaiting, isMemory};
 ghost use Rattle.board.specs.Rules.{begins, computes, fetches, steps, finished, standAs, tokenNamed};
-ghost use Rattle.board.specs.Parts.{Timely, InTurn, turnOf, tickNumberOf, releaseNumberOf};
+ghost use Rattle.board.specs.Calls.{tickTable, releaseTable};
+ghost use Rattle.board.specs.Parts.{Timely, InTurn, turnOf};
 
 pub(crate) fn is_waiting(standing: Standing) -> bool
     ensures { λ r. ⌜ r ≡ isWaiting standing ⌝ }
@@ -164,7 +166,7 @@ pub(crate) fn named(p: u8) -> Token
 }
 
 pub(crate) fn tick_number(fits: bool, clock: u32) -> u8
-    ensures { λ r. ⌜ r ≡ tickNumberOf «fits» clock ⌝ }
+    ensures { λ r. ⌜ r ≡ firstOf (tickTable «fits» clock) ⌝ }
 {
     if !fits {
         return sheet::refusals::STATE;
@@ -177,7 +179,7 @@ pub(crate) fn tick_number(fits: bool, clock: u32) -> u8
 
 pub(crate) fn release_number(clock: u32, period: u32, job: Job) -> u8
     requires { ⌜ job .last ≤ clock ⌝ }
-    ensures { λ r. ⌜ r ≡ releaseNumberOf clock period job ⌝ }
+    ensures { λ r. ⌜ r ≡ firstOf (releaseTable clock period job) ⌝ }
 {
     if job.ever & (clock - job.last < period) {
         return sheet::refusals::EARLY;

@@ -10,7 +10,7 @@ use Rattle.analysis.proofs.ExamplesHold as analysed
 use Rattle.board.specs.States.{startSet}
 use Rattle.board.specs.Shape.{setPasses, rowIsZero, absentWithZeros, jobIsZero, atMostClock, everOrZero, standingFits, jobFits, rowFits, handFits, shapeOk}
 use Rattle.board.specs.Rules.{waitsOn, firstWaiting, handTaken, jobTaken, taken, inMemory, tokenAt, hasToken, completes, jobRun, frees, ran, completedRows}
-use Rattle.board.specs.Calls.{tooEarly, releaseNumber, released, releaseOf, tickNumber, ticked, tickOf}
+use Rattle.board.specs.Calls.{releaseNumber, released, releaseOf, tickNumber, ticked, tickOf}
 use Rattle.promise.specs.Runs.{calls}
 use Rattle.promise.specs.Promises.{SheetPromised}
 use Rattle.promise.proofs.Promised.{promised-of-sheets}
@@ -18,7 +18,7 @@ use Rattle.promise.specs.Examples.{table, Holds}
 use Rattle.sheet.specs.Examples.{sheetA}
 
 pub holds : Holds table
-unfolding calls firstOf firstFrom allFrom tabFrom wordFrom countFault rowFault setRowFault firstFault setRefusal startSet setPasses rowIsZero absentWithZeros jobIsZero atMostClock everOrZero standingFits jobFits rowFits handFits shapeOk waitsOn firstWaiting handTaken jobTaken taken inMemory tokenAt hasToken completes jobRun frees ran completedRows tooEarly releaseNumber released releaseOf tickNumber ticked tickOf
+unfolding calls firstOf firstFrom allFrom tabFrom wordFrom countFault rowFault setRowFault firstFault setRefusal startSet setPasses rowIsZero absentWithZeros jobIsZero atMostClock everOrZero standingFits jobFits rowFits handFits shapeOk waitsOn firstWaiting handTaken jobTaken taken inMemory tokenAt hasToken completes jobRun frees ran completedRows releaseNumber released releaseOf tickNumber ticked tickOf
 holds =
     let a = analysed.holds .0 in
     (a .0, refl, (a .1 .0, refl, (a .1 .1 .0, refl, (a .1 .1 .1 .0, refl, (a .1 .1 .1 .1 .0, refl, (a .1 .1 .1 .1 .0, refl, (a .1 .1 .1 .1 .1 .0, refl, (a .1 .1 .1 .1 .1 .1 .0, refl, (a .1 .1 .1 .1 .1 .1 .1 .0, refl, (a .1 .1 .1 .1 .1 .1 .1 .1 .0, refl, tt))))))))))

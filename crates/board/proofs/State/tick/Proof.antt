@@ -1,8 +1,8 @@
 use mathlib.Core.Bool.{Bool}
 use mathlib.Core.Path.{_∙_, ap}
 use borrow.Author.Needs.{needs}
-use Rattle.board.specs.Parts.{tickNumberOf}
-use Rattle.board.specs.Calls.{tickNumber}
+use Rattle.laws.specs.Choice.{firstOf}
+use Rattle.board.specs.Calls.{tickTable, tickNumber}
 use Rattle.board.proofs.State.tick.Statement.{statement}
 use Rattle.board.proofs.State.tick.Tie as tie
 
@@ -13,9 +13,9 @@ tick-number-requires : tie.Need-tick-number-requires
 tick-number-requires c κs = search needs
 
 moved-requires : tie.Need-moved-requires
-unfolding tickNumber tickNumberOf
+unfolding tickNumber
 moved-requires c κs =
-    c .tick-number .ensures ∙ ap (λ (fits : Bool). tickNumberOf fits (c .before .before .before .before .before .args .self .clock)) (c .before .state-fits .ensures)
+    c .tick-number .ensures ∙ ap (λ (fits : Bool). firstOf (tickTable fits (c .before .before .before .before .before .args .self .clock))) (c .before .state-fits .ensures)
 
 returns : tie.Need-returns
 returns c = search needs

@@ -1,18 +1,14 @@
 use Rattle.laws.specs.ChoiceLaws.{chain}
-use Rattle.board.specs.Parts.{tickNumberOf}
 use Rattle.board.proofs.rules.tick_number.Statement.{statement}
 use Rattle.board.proofs.rules.tick_number.Tie as tie
 
 returns : tie.Need-returns
-unfolding tickNumberOf
 returns c = search chain depth 16
 
 returns-2 : tie.Need-returns-2
-unfolding tickNumberOf
 returns-2 c = search chain depth 16
 
 returns-3 : tie.Need-returns-3
-unfolding tickNumberOf
 returns-3 c = search chain depth 16
 
 pub tick-number-spec : {M : Type 1} → statement M
