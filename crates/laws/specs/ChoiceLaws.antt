@@ -4,7 +4,8 @@ use mathlib.Core.List.{List, [], _∷_}
 use mathlib.Core.Bool.{Bool, true, false, not}
 use Prim.Native.Nat.{ℕ, suc}
 use native.Mathlib.Omega.{arith}
-use borrow.Author.Tests.{lt-ltb, le-ltb, le-leb, lt-leb, eq-eqb, ne-eqb}
+use lib.Dec.{eqb}
+use borrow.Author.Tests.{lt-ltb, le-ltb, le-leb, lt-leb, eq-eqb, ne-eqb, eqb-true, eqb-false}
 use Rattle.laws.specs.Choice.{pick, Line, _gives_, firstOf}
 
 pub pick-true {ℓ} : {A : Type ℓ} (t : Bool) (a b : A) → t ≡ true → pick t a b ≡ a
@@ -53,3 +54,11 @@ pub given : (t : Bool) (n : ℕ) → firstOf (t gives suc n ∷ []) ≡ suc n �
 unfolding firstOf
 given true n h = refl
 given false n h = absurd (omega (arith, h))
+
+-- The first of two that applies, by a number that is 0 where none does: where it is 0 both are.
+pub both-zero : {A : Type 0} (numberOf : A → ℕ) (a b : A) → numberOf (pick (eqb (numberOf a) 0) b a) ≡ 0 → (numberOf a ≡ 0) × (numberOf b ≡ 0)
+both-zero numberOf a b h = go (eqb (numberOf a) 0) refl h
+  where
+    go : (t : Bool) → eqb (numberOf a) 0 ≡ t → numberOf (pick t b a) ≡ 0 → (numberOf a ≡ 0) × (numberOf b ≡ 0)
+    go true e h = (eqb-true (numberOf a) 0 e, h)
+    go false e h = absurd (eqb-false (numberOf a) 0 e h)

@@ -1,5 +1,5 @@
 -- What is printed for the paper's sheets A and C6.
-use mathlib.Core.Path.{_≡_, refl}
+use mathlib.Core.Path.{refl}
 use Rattle.laws.specs.Choice.{firstOf}
 use Rattle.laws.specs.Search.{firstFrom}
 use Rattle.laws.specs.Tabulate.{tabFrom}

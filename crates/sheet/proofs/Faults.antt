@@ -1,15 +1,14 @@
 -- The first that applies: of two refusals, of a table's lines, of rows in turn; and what it says that none applies.
-use mathlib.Core.Path.{_≡_, refl, sym, _∙_}
-use mathlib.Core.Bool.{Bool, true, false}
+use mathlib.Core.Path.{_≡_, sym, _∙_}
 use Prim.Native.Nat.{ℕ, zero, suc, _+_, _-_, _<_, _≤_}
 use native.Mathlib.Nat.{sub-zero}
 use native.Mathlib.Omega.{arith}
 use native.Mathlib.Numerals.{add-one}
 use native.Mathlib.Decide.{decLt}
-use lib.Dec.{eqb, ltb}
+use lib.Dec.{ltb}
 use borrow.Author.Tests.{ltb-false, leb-false, eqb-true, eqb-false, not-false, eq-eqb, ne-eqb, lt-ltb, le-ltb}
 use Rattle.laws.specs.Choice.{pick, firstOf}
-use Rattle.laws.specs.ChoiceLaws.{past, not-yes, not-no, true-not-false, chain}
+use Rattle.laws.specs.ChoiceLaws.{past, both-zero, not-yes, not-no, true-not-false, chain}
 use Rattle.laws.specs.Search.{firstFrom, first}
 use Rattle.laws.specs.SearchLaws.{first-hit, first-skip, first-end, first-is, IsFirst}
 use Rattle.sheet.specs.Refusals.{refused, accepted, orElse}
@@ -25,11 +24,7 @@ pub or-second : (a b : Refusal) → a .number ≡ 0 → orElse a b ≡ b
 or-second a b h = simp (eq-eqb (a .number) 0 h)
 
 pub both-accept : (a b : Refusal) → orElse a b .number ≡ 0 → (a .number ≡ 0) × (b .number ≡ 0)
-both-accept a b h = go (eqb (a .number) 0) refl h
-  where
-    go : (t : Bool) → eqb (a .number) 0 ≡ t → pick t b a .number ≡ 0 → (a .number ≡ 0) × (b .number ≡ 0)
-    go true e h = (eqb-true (a .number) 0 e, h)
-    go false e h = absurd (eqb-false (a .number) 0 e h)
+both-accept = both-zero (λ (r : Refusal). r .number)
 
 -- Of n rows in turn: a loop stands at row i and has found no fault below it.
 pub record Clear (fault : ℕ → ℕ) (n i : ℕ) : Type 0 where

@@ -5,18 +5,15 @@ use mathlib.Core.Bool.{Bool, true, false, not}
 use mathlib.Core.List.{List, [], _∷_}
 use native.Mathlib.Omega.{arith}
 use native.Mathlib.Decide.{ℕ-discrete, decLt}
-use lib.Dec.{eqb, ltb}
+use lib.Dec.{eqb}
 use borrow.Author.Tests.{eq-eqb, ne-eqb, lt-ltb, le-ltb}
 use Rattle.laws.specs.Choice.{pick, Line, _gives_, firstOf}
 use Rattle.laws.specs.Search.{first}
 use Rattle.sheet.specs.Refusals.{refused, orElse}
-use Rattle.sheet.specs.Layout.{processorsOf, countOf, lengthFor, lengthByte, rowAt}
-use Rattle.sheet.specs.Ranges.{countTable, rowTable, countFault, rowFault, before, faulty, refusedAt, firstFault, rowIn, setRowFault, setRefusal}
+use Rattle.sheet.specs.Layout.{processorsOf, countOf, lengthByte, rowAt}
+use Rattle.sheet.specs.Ranges.{rowTable, before, faulty, refusedAt, firstFault}
 use Rattle.sheet.specs.Reading.{headerFault, recordFault, readRefusal}
-use Rattle.sheet.specs.Writing.{writeRefusal}
-use Rattle.sheet.specs.declared.Set.{Set}
 use Rattle.sheet.specs.declared.Refusal.{Refusal}
-use Rattle.sheet.proofs.Faults as faults
 use Rattle.sheet.proofs.ReadingLaws as reading
 
 pub record Small (r : Refusal) : Type 0 where
@@ -72,24 +69,3 @@ either a b p q = go (eqb (a .number) 0)
     go : (t : Bool) → Small (pick t b a)
     go true = q
     go false = p
-
-set-row-small : (set : Set) (i : ℕ) → setRowFault set i < 100
-unfolding setRowFault rowFault
-set-row-small set i =
-    first-small (rowTable (set .processors) (before (rowIn set) i) (rowIn set i))
-    (omega arith, (omega arith, (omega arith, (omega arith, (omega arith, (omega arith, (omega arith, (omega arith, (omega arith, tt)))))))))
-
-set-small : (set : Set) → Small (setRefusal set)
-unfolding setRefusal countFault
-set-small set = go (ℕ-discrete (countFault (set .processors) (set .count)) 0)
-  where
-    n : ℕ
-    n = countFault (set .processors) (set .count)
-
-    go : Dec (n ≡ 0) → Small (orElse (refused n 0) (firstFault (setRowFault set) (set .count)))
-    go (yes e) = rw (eq-eqb n 0 e) (rows-small (setRowFault set) (set .count) (faults.counts-of (set .processors) (set .count) e .rows) (set-row-small set))
-    go (no m) = rw (ne-eqb n 0 m) (whole n (first-small (countTable (set .processors) (set .count)) (omega arith, (omega arith, (omega arith, tt)))))
-
-pub write-small : (set : Set) (room : ℕ) → Small (writeRefusal set room)
-unfolding writeRefusal
-write-small set room = either (setRefusal set) _ (set-small set) (whole _ (first-small (ltb room (lengthFor (set .count)) gives 12 ∷ []) (omega arith, tt)))

@@ -9,11 +9,11 @@ use Rattle.sheet_text.specs.Composing.{composeAnswer, composed, answerLi
 use Rattle.sheet_text.specs.Listing.{listed}
 use Rattle.sheet_text.specs.declared.Answer.{Answer}
 
-pub compose-determined : (text before : List ℕ) (a b : Answer) (after after′ : List ℕ)
-    → (a ≡ composeAnswer text (length before)) × (after ≡ composed text before)
-    → (b ≡ composeAnswer text (length before)) × (after′ ≡ composed text before)
+pub compose-determined : (text bytesBefore : List ℕ) (a b : Answer) (after after′ : List ℕ)
+    → (a ≡ composeAnswer text (length bytesBefore)) × (after ≡ composed text bytesBefore)
+    → (b ≡ composeAnswer text (length bytesBefore)) × (after′ ≡ composed text bytesBefore)
     → (a ≡ b) × (after ≡ after′)
-compose-determined text before a b after after′ p q = (p .0 ∙ sym (q .0), p .1 ∙ sym (q .1))
+compose-determined text bytesBefore a b after after′ p q = (p .0 ∙ sym (q .0), p .1 ∙ sym (q .1))
 
 pub list-determined : (sheet buffer after after′ : List ℕ) (end end′ : ℕ)
     → Puts (listed sheet) buffer 0 after end

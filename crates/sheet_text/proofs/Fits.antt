@@ -29,8 +29,6 @@ use Rattle.sheet_text.specs.Meaning.{meaningOf}
 use Rattle.sheet_text.specs.Composing.{reason, placedLine, answerLine, refusedText, answerOf, composeAnswer}
 use Rattle.sheet_text.specs.Listing.{listing, listed}
 use Rattle.sheet_text.specs.declared.Answer.{Answer}
-use Rattle.sheet_text.specs.declared.Fault.{Fault}
-use Rattle.sheet_text.specs.declared.Meaning.{Meaning}
 use Rattle.sheet_text.proofs.ListingLaws.{listing-short}
 use Rattle.sheet_text.proofs.RoundTrip.{taken-sayable}
 

@@ -1,3 +1,4 @@
+pub mod FaultLaws
 pub mod WordLaws
 pub mod NumberLaws
 pub mod LineLaws

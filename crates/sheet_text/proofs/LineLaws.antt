@@ -1,40 +1,39 @@
 -- Laws of a text's lines, as the loop that looks for the next line with words needs them.
-use Prim.Native.Nat.{ℕ, zero, suc, _+_, _-_, _≤_, _<_}
-use mathlib.Core.Path.{_≡_, refl, sym, ap, ap₂, _∙_}
+use Prim.Native.Nat.{ℕ, suc, _+_, _-_, _≤_, _<_}
+use mathlib.Core.Path.{_≡_, refl, sym, ap, _∙_}
 use mathlib.Core.Bool.{Bool, true, false}
 use mathlib.Core.List.{List, [], _∷_}
 use native.Mathlib.Omega.{arith}
 use native.Mathlib.Numerals.{add-one}
 use lib.ListN.{length, take, drop, length-drop, drop-of-length-le}
-use lib.Seq.{drop-drop, take-take}
+use lib.Seq.{drop-drop}
 use Rattle.laws.specs.ChoiceLaws.{true-not-false}
-use Rattle.sheet_text.specs.Words.{isMark, before, firstLine, grown, linesOf, contentOf, hasWord}
-use Rattle.sheet_text.specs.Meaning.{Line, lineAt, worded, mostBytes}
-use Rattle.sheet_text.specs.Parts.{cutOf, contentAt, linesFrom, Finds}
+use Rattle.sheet_text.specs.Words.{isMark, bytesBefore, grown, linesOf, contentOf, hasWord}
+use Rattle.sheet_text.specs.Meaning.{lineAt, worded, mostBytes}
+use Rattle.sheet_text.specs.Parts.{firstLine, cutOf, Finds}
 use Rattle.sheet_text.specs.declared.Mark.the-variants.{Newline, Hash}
 use Rattle.sheet_text.specs.declared.Cut.{Cut}
-use Rattle.sheet_text.specs.declared.Next.{Next}
-use Rattle.sheet_text.proofs.WordLaws.{to-end, before-short, before-take}
+use Rattle.sheet_text.proofs.WordLaws.{to-end, before-short, before-take, content-part}
 
 abbrev afterLine : List ℕ → List ℕ
 afterLine text = drop (length (firstLine text) + 1) text
 
 -- A text that is not empty is its first line and the lines after it.
 abbrev Begun : ℕ → List ℕ → Type 0
-Begun b r = grown b (linesOf r) ≡ (b ∷ before Newline r) ∷ linesOf (drop (length (before Newline r) + 1) r)
+Begun b r = grown b (linesOf r) ≡ (b ∷ bytesBefore Newline r) ∷ linesOf (drop (length (bytesBefore Newline r) + 1) r)
 
 first-byte : (b : ℕ) (r : List ℕ) → Begun b r → linesOf (b ∷ r) ≡ firstLine (b ∷ r) ∷ linesOf (afterLine (b ∷ r))
-unfolding linesOf before
+unfolding linesOf bytesBefore
 first-byte b r e = go (isMark Newline b)
   where
-    go : (x : Bool) → (let y : List ℕ = elim x [ true ↦ [] | false ↦ b ∷ before Newline r ] in elim x [ true ↦ [] ∷ linesOf r | false ↦ grown b (linesOf r) ] ≡ y ∷ linesOf (drop (length y + 1) (b ∷ r)))
+    go : (x : Bool) → (let y : List ℕ = elim x [ true ↦ [] | false ↦ b ∷ bytesBefore Newline r ] in elim x [ true ↦ [] ∷ linesOf r | false ↦ grown b (linesOf r) ] ≡ y ∷ linesOf (drop (length y + 1) (b ∷ r)))
     go true = refl
     go false =
-        let n : suc (length (before Newline r) + 1) ≡ suc (length (before Newline r)) + 1 = omega arith in
-        e ∙ ap (λ (m : ℕ). (b ∷ before Newline r) ∷ linesOf (drop m (b ∷ r))) n
+        let n : suc (length (bytesBefore Newline r) + 1) ≡ suc (length (bytesBefore Newline r)) + 1 = omega arith in
+        e ∙ ap (λ (m : ℕ). (b ∷ bytesBefore Newline r) ∷ linesOf (drop m (b ∷ r))) n
 
 lines-first : (b : ℕ) (text : List ℕ) → linesOf (b ∷ text) ≡ firstLine (b ∷ text) ∷ linesOf (afterLine (b ∷ text))
-unfolding linesOf before
+unfolding linesOf bytesBefore
 lines-first b [] = first-byte b [] refl
 lines-first b (d ∷ r) = first-byte b (d ∷ r) (ap (grown b) (lines-first d r))
 
@@ -116,11 +115,8 @@ module _ (text : List ℕ) (place number at line : ℕ) (l : Looking text place 
   unfolding rest
   content =
       let n : at + cut .stop - at ≡ cut .stop = omega arith in
-      let short : length (contentOf (firstLine rest)) ≤ length (firstLine rest) = before-short Hash (firstLine rest) in
-      ap (λ (m : ℕ). take m rest) (n ∙ stop-is)
-      ∙ sym (take-take (length (contentOf (firstLine rest))) (length (firstLine rest)) rest short)
-      ∙ ap (λ (x : List ℕ). take (length (contentOf (firstLine rest))) x) (before-take Newline rest)
-      ∙ before-take Hash (firstLine rest)
+      ap (λ (m : ℕ). take m rest) n
+      ∙ content-part rest (length (firstLine rest)) (cut .stop) refl (stop-is ∙ ap (λ (x : List ℕ). length (bytesBefore Hash x)) (sym (before-take Newline rest)))
 
   pub found-here : cut .worded ≡ true → Finds text place number (record { found = true; start = at; stop = at + cut .stop; after = at + cut .after; number = line })
   found-here w =

@@ -19,8 +19,8 @@ use Rattle.text.specs.Lines.{linesTo}
 use Rattle.text.proofs.DecimalLaws.{decimal-short}
 use Rattle.text.proofs.Lengths.{lines-short}
 use Rattle.sheet_text.specs.Faults.{noFault}
-use Rattle.sheet_text.specs.Words.{before, linesOf, hasWord, sameBytes}
-use Rattle.sheet_text.specs.Meaning.{Line, lineAt, noLine, worded, mostBytes, firstLineSaid, rowNumbers, rowSaid, rowsFault, rowAt, rowsMeant, pageMeant, meant, meaningOf}
+use Rattle.sheet_text.specs.Words.{bytesBefore, linesOf, hasWord, sameBytes}
+use Rattle.sheet_text.specs.Meaning.{TextLine, lineAt, noLine, worded, mostBytes, firstLineSaid, rowNumbers, rowSaid, rowsFault, rowOfLine, rowsMeant, pageMeant, meant, meaningOf}
 use Rattle.sheet_text.specs.Listing.{firstText, heading, rowText, rowTextOf, listing}
 use Rattle.sheet_text.specs.declared.Mark.{Mark}
 use Rattle.sheet_text.specs.declared.Mark.the-variants.{Newline, Hash}
@@ -129,7 +129,7 @@ worded-next n words more h w =
 abbrev numberOf : ℕ → ℕ
 numberOf i = suc (suc (suc i))
 
-abbrev rowLine : (ℕ → Row) → ℕ → Line
+abbrev rowLine : (ℕ → Row) → ℕ → TextLine
 rowLine row i = lineAt (numberOf i) (rowWords (row i))
 
 worded-rows : (row : ℕ → Row) (i n : ℕ) → worded (numberOf i) (tabFrom (λ j. rowWords (row j)) i n) ≡ tabFrom (rowLine row) i n
@@ -139,19 +139,19 @@ worded-rows row i (suc n) =
     let r = row i in
     worded-next (numberOf i) (rowWords r) (tabFrom (λ j. rowWords (row j)) (suc i) n) (row-no hash r)
     (word-there [] (decimal (r .processor)) (spaced (restOf r)) tt (decimal-word (r .processor)) (spaced-ends (restOf r)))
-    ∙ ap (λ (l : List Line). rowLine row i ∷ l) (worded-rows row (suc i) n)
+    ∙ ap (λ (l : List TextLine). rowLine row i ∷ l) (worded-rows row (suc i) n)
 
-abbrev rowLines : Set → List Line
+abbrev rowLines : Set → List TextLine
 rowLines set = tab (set .count) (rowLine (rowIn set))
 
 worded-listed : (set : Set) → worded 1 (linesOf (listing set)) ≡ lineAt 1 (firstWords (set .processors)) ∷ rowLines set
-unfolding worded before
+unfolding worded bytesBefore
 worded-listed set =
     let N = set .processors in
     ap (worded 1) (lines-listed set)
     ∙ worded-next 1 (firstWords N) (headingWords ∷ rowsWords set) (first-no hash N)
     (word-there [] (ascii "processors") (spaced (N ∷ [])) tt keyword (spaced-ends (N ∷ [])))
-    ∙ ap (λ (l : List Line). lineAt 1 (firstWords N) ∷ l) (worded-rows (rowIn set) 0 (set .count))
+    ∙ ap (λ (l : List TextLine). lineAt 1 (firstWords N) ∷ l) (worded-rows (rowIn set) 0 (set .count))
 
 -- What the first line says, and a row's.
 first-said : (N : ℕ) → Within 0 (N ∷ []) → firstLineSaid 1 (firstWords N) ≡ record { fault = noFault; values = N ∷ 0 ∷ 0 ∷ 0 ∷ 0 ∷ [] }
@@ -180,8 +180,8 @@ module _ (set : Set) (s : Sayable set) where
   rows-said =
       rw (rows-clear (rowIn set) 0 (set .count) (omega (arith, s .count)) (λ k h. s .row k (omega arith)), length-tab (set .count) (rowLine (rowIn set)))
       (ap (λ (l : List Row). meant (record { processors = set .processors; count = set .count; rows = l }))
-      (padded-same (rowAt (rowLines set)) (rowIn set) zeroRow mostRows (set .count)
-      (λ i l. ap (λ (x : Line). rowSaid i (x .number) (x .content) .row) (getD-tab (set .count) (rowLine (rowIn set)) i noLine l)
+      (padded-same (rowOfLine (rowLines set)) (rowIn set) zeroRow mostRows (set .count)
+      (λ i l. ap (λ (x : TextLine). rowSaid i (x .number) (x .content) .row) (getD-tab (set .count) (rowLine (rowIn set)) i noLine l)
       ∙ ap (λ (x : RowSaid). x .row) (row-said i (numberOf i) (rowIn set i) (omega (arith, s .count)) (s .row i l)))))
 
   page-said : (last : ℕ) → pageMeant last (lineAt 1 (firstWords (set .processors)) ∷ rowLines set) ≡ meant (trimmed set)

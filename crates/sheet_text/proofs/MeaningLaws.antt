@@ -1,26 +1,25 @@
 -- Laws of what lines and texts say, in words of what the code has found.
-use Prim.Native.Nat.{ℕ, zero, suc, _+_, _-_, _≤_, _<_}
+use Prim.Native.Nat.{ℕ, _+_, _-_, _≤_, _<_}
 use mathlib.Core.Path.{_≡_, refl, sym, ap, ap₂, _∙_}
 use mathlib.Core.Bool.{Bool, true, false}
-use mathlib.Core.List.{List, [], _∷_}
+use mathlib.Core.List.{List}
 use native.Mathlib.Omega.{arith}
-use native.Mathlib.Decide.{ℕ-discrete, decLt}
+use native.Mathlib.Decide.{decLt}
 use lib.ListN.{length, getD, take, drop}
 use borrow.Author.Tests.{lt-ltb, le-ltb}
 use Rattle.laws.specs.ChoiceLaws.{pick-true, pick-false}
 use Rattle.sheet.specs.Ranges.{mostRows}
 use Rattle.text.specs.Ascii.{ascii}
 use Rattle.sheet_text.specs.Faults.{FIRST, ROWS, faultAt}
-use Rattle.sheet_text.specs.Words.{before, blanksOf, wordOf, wordEnd, afterWord, sameBytes}
-use Rattle.sheet_text.specs.Meaning.{mostNumbers, faultyNumbers, numbersSaid, firstLineSaid, rowOf, rowNumbers, rowSaid}
-use Rattle.sheet_text.specs.declared.Mark.the-variants.{Visible, Blank}
+use Rattle.sheet_text.specs.Words.{bytesBefore, blanksOf, wordOf, wordEnd, sameBytes}
+use Rattle.sheet_text.specs.Meaning.{mostNumbers, faultyNumbers, numbersSaid, firstLineSaid, rowOfNumbers, rowNumbers, rowSaid}
+use Rattle.sheet_text.specs.declared.Mark.the-variants.{Blank}
 use Rattle.sheet_text.specs.declared.Numbers.{Numbers}
-use Rattle.sheet_text.specs.declared.RowSaid.{RowSaid}
 use Rattle.sheet_text.proofs.WordLaws.{to-end, word-size, word-part}
 use Rattle.sheet_text.proofs.NumberLaws.{first-byte}
 
 -- The first line, where its first word has been found and compared.
-module _ (content : List ℕ) (start size : ℕ) (blanks : start ≡ blanksOf content) (bytes : size ≡ length (before Blank (take (length content - start) (drop start content)))) (line : ℕ) (same : Bool) (compared : same ≡ sameBytes (take (start + size - start) (drop start content)) (ascii "processors")) where
+module _ (content : List ℕ) (start size : ℕ) (blanks : start ≡ blanksOf content) (bytes : size ≡ length (bytesBefore Blank (take (length content - start) (drop start content)))) (line : ℕ) (same : Bool) (compared : same ≡ sameBytes (take (start + size - start) (drop start content)) (ascii "processors")) where
   same-word : sameBytes (wordOf content) (ascii "processors") ≡ same
   same-word = ap (λ (x : List ℕ). sameBytes x (ascii "processors")) (sym (word-part content start size blanks bytes)) ∙ sym compared
 
@@ -65,6 +64,6 @@ row-few k line content z = go (decLt k mostRows)
     go (no h) = absurd (omega (arith, z, ap (λ (n : Numbers). n .fault .number) (row-faulty k line content (blanksOf content) refl (omega arith))))
 
 pub row-is : (k line : ℕ) (content : List ℕ) (numbers : Numbers) → numbers ≡ rowNumbers k line content
-    → record { fault = numbers .fault; row = rowOf (numbers .values) } ≡ rowSaid k line content
+    → record { fault = numbers .fault; row = rowOfNumbers (numbers .values) } ≡ rowSaid k line content
 unfolding rowSaid
-row-is k line content numbers e = ap (λ (n : Numbers). record { fault = n .fault; row = rowOf (n .values) }) e
+row-is k line content numbers e = ap (λ (n : Numbers). record { fault = n .fault; row = rowOfNumbers (n .values) }) e

@@ -1,7 +1,7 @@
 -- Laws of the numbers on a line, as the loop that takes them one by one needs them.
-use Prim.Native.Nat.{ℕ, zero, suc, _+_, _-_, _≤_, _<_}
+use Prim.Native.Nat.{ℕ, suc, _+_, _-_, _≤_, _<_}
 use mathlib.Core.Path.{_≡_, refl, sym, ap, ap₂, _∙_}
-use mathlib.Core.Bool.{Bool, true, false, not}
+use mathlib.Core.Bool.{Bool, true, false}
 use mathlib.Core.List.{List, [], _∷_}
 use native.Mathlib.Omega.{arith}
 use native.Mathlib.Numerals.{add-one}
@@ -9,29 +9,26 @@ use native.Mathlib.Nat.{add-assoc}
 use native.Mathlib.Decide.{ℕ-discrete}
 use lib.ListN.{length, getD, take, drop, set, length-drop}
 use lib.Seq.{drop-drop}
-use lib.Dec.{eqb, ltb}
+use lib.Dec.{eqb}
 use borrow.Author.Tests.{eq-eqb, ne-eqb, lt-ltb, le-ltb, ltb-false}
-use Rattle.laws.specs.Choice.{pick, firstOf}
-use Rattle.laws.specs.ChoiceLaws.{pick-true, pick-false, past}
+use Rattle.laws.specs.Choice.{pick}
+use Rattle.laws.specs.ChoiceLaws.{pick-true, pick-false, past, both-zero}
 use Rattle.laws.specs.Tabulate.{padded}
 use Rattle.laws.specs.TabulateLaws.{padded-at, padded-none, padded-more}
 use Rattle.sheet_text.specs.Faults.{MANY, faultAt, noFault, orElse}
-use Rattle.sheet_text.specs.Words.{before, blanksOf, hasWord, wordOf, wordEnd, afterWord, valueOf, numberFault, numberSaid, fieldSaid, limit}
+use Rattle.sheet_text.specs.Words.{blanksOf, hasWord, wordOf, wordEnd, afterWord, valueOf, numberFault, numberSaid, fieldSaid, numberLimit}
 use Rattle.sheet_text.specs.Meaning.{numbersFault, leftAfter, valueAt, mostNumbers, faultyNumbers, numbersSaid}
-use Rattle.sheet_text.specs.declared.Mark.the-variants.{Visible, Blank}
+use Rattle.sheet_text.specs.declared.Mark.the-variants.{Visible}
 use Rattle.sheet_text.specs.declared.Fault.{Fault}
 use Rattle.sheet_text.specs.declared.Field.{Field}
 use Rattle.sheet_text.specs.declared.Numbers.{Numbers}
-use Rattle.sheet_text.proofs.WordLaws.{to-end, before-short}
+use Rattle.sheet_text.proofs.FaultLaws.{unless-faulty, unless-clear}
+use Rattle.sheet_text.proofs.WordLaws.{to-end, before-short, word-end}
 
 -- A word that is a number, and fits.
 number-fits : (most : ℕ) (w : List ℕ) → numberFault most w ≡ 0 → valueOf w ≤ most
 unfolding numberFault
 number-fits most w h = ltb-false _ _ (past _ _ _ (past _ _ _ h .1) .0)
-
-pub word-end : (line : List ℕ) → wordEnd line ≤ length line
-word-end line =
-    omega (arith, before-short Visible line, before-short Blank (drop (blanksOf line) line), length-drop (blanksOf line) line)
 
 -- A field without fault.
 pub record Said (most : ℕ) (left : List ℕ) (field : Field) : Type 0 where
@@ -63,7 +60,7 @@ field-place most left = go (hasWord left)
     go false = omega arith
 
 -- Number k of `count`, where `left` begins at a column of the line.
-module _ (count k line column : ℕ) (left : List ℕ) (field : Field) (h : k < count) (e : field ≡ fieldSaid (limit k) left) where
+module _ (count k line column : ℕ) (left : List ℕ) (field : Field) (h : k < count) (e : field ≡ fieldSaid (numberLimit k) left) where
   one : numbersFault (count - k) k line column left ≡ orElse (faultAt (field .fault) line (column + field .place)) (numbersFault (count - (k + 1)) (k + 1) line (column + wordEnd left) (afterWord left))
   unfolding numbersFault
   one =
@@ -75,7 +72,7 @@ module _ (count k line column : ℕ) (left : List ℕ) (field : Field) (h : k < 
 
   pub numbers-more : field .fault ≡ 0 → numbersFault (count - k) k line column left ≡ numbersFault (count - (k + 1)) (k + 1) line (column + field .stop) (drop (field .stop) left)
   numbers-more z =
-      let s = field-said (limit k) left field e z in
+      let s = field-said (numberLimit k) left field e z in
       one ∙ pick-true _ _ _ (eq-eqb (field .fault) 0 z)
       ∙ ap (λ (n : ℕ). numbersFault (count - (k + 1)) (k + 1) line (column + n) (drop n left)) (sym (s .stop-is))
 
@@ -83,23 +80,12 @@ module _ (count k line column : ℕ) (left : List ℕ) (field : Field) (h : k < 
 module _ (count line column : ℕ) (left : List ℕ) where
   pub said-faulty : (f : Fault) → numbersFault count 0 line column left ≡ f → (f .number ≡ 0 → ⊥) → faultyNumbers f ≡ numbersSaid count line column left
   unfolding numbersSaid
-  said-faulty f e d =
-      ap faultyNumbers (sym e)
-      ∙ sym (pick-false _ _ _ (ne-eqb (numbersFault count 0 line column left .number) 0 (λ z. d (ap (λ (x : Fault). x .number) (sym e) ∙ z))))
+  said-faulty = unless-faulty (record { fault = noFault; values = padded mostNumbers count (valueAt left) 0 }) faultyNumbers (numbersFault count 0 line column left)
 
   pub said-good : numbersFault count 0 line column left .number ≡ 0
       → record { fault = noFault; values = padded mostNumbers count (valueAt left) 0 } ≡ numbersSaid count line column left
   unfolding numbersSaid
-  said-good z = sym (pick-true _ _ _ (eq-eqb (numbersFault count 0 line column left .number) 0 z))
-
-  -- A fault's number says whether there is one.
-  pub faultless : numbersSaid count line column left .fault .number ≡ 0 → numbersFault count 0 line column left .number ≡ 0
-  unfolding numbersSaid
-  faultless h = go (ℕ-discrete (numbersFault count 0 line column left .number) 0)
-    where
-      go : Dec (numbersFault count 0 line column left .number ≡ 0) → numbersFault count 0 line column left .number ≡ 0
-      go (yes z) = z
-      go (no d) = absurd (d (sym (ap (λ (x : Numbers). x .fault .number) (pick-false _ _ _ (ne-eqb (numbersFault count 0 line column left .number) 0 d))) ∙ h))
+  said-good = unless-clear _ faultyNumbers (numbersFault count 0 line column left)
 
 -- A loop that takes the numbers stands at number k, at place `at` of what was left.
 pub record Taken (count line column : ℕ) (left : List ℕ) (values : List ℕ) (at k : ℕ) : Type 0 where
@@ -125,19 +111,19 @@ module _ (count line column : ℕ) (left : List ℕ) where
         filled = padded-none (valueAt left) 0 mostNumbers;
       }
 
-  module _ (values : List ℕ) (at k : ℕ) (t : Taken count line column left values at k) (h : k < count) (field : Field) (e : field ≡ fieldSaid (limit k) (take (length left - at) (drop at left))) where
-    here : field ≡ fieldSaid (limit k) (drop at left)
-    here = e ∙ ap (fieldSaid (limit k)) (to-end left at)
+  module _ (values : List ℕ) (at k : ℕ) (t : Taken count line column left values at k) (h : k < count) (field : Field) (e : field ≡ fieldSaid (numberLimit k) (take (length left - at) (drop at left))) where
+    here : field ≡ fieldSaid (numberLimit k) (drop at left)
+    here = e ∙ ap (fieldSaid (numberLimit k)) (to-end left at)
 
     pub taken-stop : (field .fault ≡ 0 → ⊥) → faultyNumbers (faultAt (field .fault) line (column + at + field .place)) ≡ numbersSaid count line column left
     taken-stop d = said-faulty count line column left _ (t .fault ∙ numbers-stop count k line (column + at) (drop at left) field h here d) d
 
     pub place-within : at + field .place ≤ length left
-    place-within = omega (arith, ap (λ (f : Field). f .place) here, field-place (limit k) (drop at left), length-drop at left, t .inside)
+    place-within = omega (arith, ap (λ (f : Field). f .place) here, field-place (numberLimit k) (drop at left), length-drop at left, t .inside)
 
     module _ (z : field .fault ≡ 0) where
-      said : Said (limit k) (drop at left) field
-      said = field-said (limit k) (drop at left) field here z
+      said : Said (numberLimit k) (drop at left) field
+      said = field-said (numberLimit k) (drop at left) field here z
 
       pub taken-within : at + field .stop ≤ length left
       taken-within = omega (arith, said .stop-is, word-end (drop at left), length-drop at left, t .inside)
@@ -180,17 +166,10 @@ module _ (count line column : ℕ) (left : List ℕ) where
         ap (λ (x : List ℕ). record { fault = noFault; values = x }) (t .filled ∙ ap (λ (n : ℕ). padded mostNumbers n (valueAt left) 0) c)
         ∙ said-good count line column left (ap (λ (x : Fault). x .number) z)
 
-or-first : (a b : Fault) → orElse a b .number ≡ 0 → a .number ≡ 0
-or-first a b h = go (ℕ-discrete (a .number) 0)
-  where
-    go : Dec (a .number ≡ 0) → a .number ≡ 0
-    go (yes z) = z
-    go (no d) = sym (ap (λ (f : Fault). f .number) (pick-false _ b a (ne-eqb (a .number) 0 d))) ∙ h
-
 first-fits : (n line column : ℕ) (left : List ℕ) → numbersFault (suc n) 0 line column left .number ≡ 0 → valueAt left 0 ≤ 255
 unfolding numbersFault valueAt leftAfter
 first-fits n line column left z =
-    let s = field-said 255 left (fieldSaid 255 left) refl (or-first (faultAt (fieldSaid 255 left .fault) line (column + fieldSaid 255 left .place)) (numbersFault n 1 line (column + wordEnd left) (afterWord left)) z) in
+    let s = field-said 255 left (fieldSaid 255 left) refl (both-zero (λ (f : Fault). f .number) (faultAt (fieldSaid 255 left .fault) line (column + fieldSaid 255 left .place)) (numbersFault n 1 line (column + wordEnd left) (afterWord left)) z .0) in
     omega (arith, s .value-is, s .fits)
 
 -- The first number of a line is a byte.

@@ -11,7 +11,7 @@ use Rattle.laws.specs.TabulateLaws.{padded-same}
 use Rattle.text.specs.Decimal.{digit, decimal}
 use Rattle.text.specs.Lines.{line}
 use Rattle.sheet_text.specs.Faults.{noFault}
-use Rattle.sheet_text.specs.Words.{before, wordOf, afterWord, valueOf, numberFault, numberSaid, fieldSaid, limit}
+use Rattle.sheet_text.specs.Words.{bytesBefore, wordOf, afterWord, valueOf, numberFault, numberSaid, fieldSaid, numberLimit}
 use Rattle.sheet_text.specs.Meaning.{mostNumbers, numbersFault, leftAfter, valueAt, numbersSaid}
 use Rattle.sheet_text.specs.declared.Mark.the-variants.{Blank, Visible}
 use Rattle.sheet_text.proofs.WordsOfLines.{Each, each-append, No, Ends, word-next, word-there, after-next}
@@ -39,7 +39,7 @@ line-of word (n ∷ ns) =
 -- Numbers within their limits, from number k of a line on.
 abbrev pub Within : ℕ → List ℕ → Type 0
 Within k [] = Unit
-Within k (n ∷ ns) = (n ≤ limit k) × Within (suc k) ns
+Within k (n ∷ ns) = (n ≤ numberLimit k) × Within (suc k) ns
 
 -- A number after blanks, and more numbers.
 abbrev pub numbersAfter : List ℕ → ℕ → List ℕ → List ℕ
@@ -60,10 +60,10 @@ module _ (blanks : List ℕ) (b : Each (No Visible) blanks) (n : ℕ) (ns : List
 -- No fault is found.
 numbers-clear : (blanks : List ℕ) → Each (No Visible) blanks → (k n : ℕ) (ns : List ℕ) → Within k (n ∷ ns) → (line column : ℕ)
     → numbersFault (suc (length ns)) k line column (numbersAfter blanks n ns) ≡ noFault
-unfolding numbersFault before
-numbers-clear blanks b k n [] w line column = rw (field-clear blanks b n [] (limit k) (w .0), after-is blanks b n [])
+unfolding numbersFault bytesBefore
+numbers-clear blanks b k n [] w line column = rw (field-clear blanks b n [] (numberLimit k) (w .0), after-is blanks b n [])
 numbers-clear blanks b k n (m ∷ ms) w line column =
-    rw (field-clear blanks b n (m ∷ ms) (limit k) (w .0), after-is blanks b n (m ∷ ms)) (numbers-clear (32 ∷ []) (refl, tt) (suc k) m ms (w .1) line _)
+    rw (field-clear blanks b n (m ∷ ms) (numberLimit k) (w .0), after-is blanks b n (m ∷ ms)) (numbers-clear (32 ∷ []) (refl, tt) (suc k) m ms (w .1) line _)
 
 -- Each number is found in its place.
 left-next : (line : List ℕ) (k : ℕ) → leftAfter (suc k) line ≡ leftAfter k (afterWord line)

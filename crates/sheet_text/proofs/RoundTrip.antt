@@ -28,7 +28,7 @@ use Rattle.text.specs.Refusing.{refusedLine}
 use Rattle.sheet_text.specs.Faults.{LONG, faultAt}
 use Rattle.sheet_text.specs.Words.{linesOf}
 use Rattle.sheet_text.specs.Meaning as said
-use Rattle.sheet_text.specs.Meaning.{Line, worded, firstLineSaid, rowsFault, meant, meantNothing, rowsMeant, pageMeant, mostBytes, meaningOf}
+use Rattle.sheet_text.specs.Meaning.{TextLine, worded, firstLineSaid, rowsFault, meant, meantNothing, rowsMeant, pageMeant, mostBytes, meaningOf}
 use Rattle.sheet_text.specs.Composing.{refusedText, answerOf, composeAnswer, composed}
 use Rattle.sheet_text.specs.Listing.{firstText, heading, rowText, rowTextOf, listing, listed, plain}
 use Rattle.sheet_text.specs.declared.Fault.{Fault}
@@ -112,11 +112,11 @@ proper-else f m p = go (eqb (f .number) 0) refl
     go true e = p
     go false e = λ z c. absurd (eqb-false (f .number) 0 e z)
 
-rows-proper : (N : ℕ) (lines : List Line) → Proper (rowsMeant N lines)
+rows-proper : (N : ℕ) (lines : List TextLine) → Proper (rowsMeant N lines)
 unfolding rowsMeant
-rows-proper N lines = proper-else (rowsFault 0 lines) _ (λ z c. ap meant (sym (trimmed-padded N (length lines) (said.rowAt lines) c)))
+rows-proper N lines = proper-else (rowsFault 0 lines) _ (λ z c. ap meant (sym (trimmed-padded N (length lines) (said.rowOfLine lines) c)))
 
-page-proper : (last : ℕ) (lines : List Line) → Proper (pageMeant last lines)
+page-proper : (last : ℕ) (lines : List TextLine) → Proper (pageMeant last lines)
 unfolding pageMeant
 page-proper last [] = λ z c. absurd (omega arith)
 page-proper last (l ∷ lines) = proper-else (firstLineSaid (l .number) (l .content) .fault) _ (rows-proper _ lines)

@@ -1,13 +1,11 @@
 -- Laws of what a text means and of what is answered and printed, in words of what the code has found.
 use Prim.Native.Nat.{ℕ, suc, _+_, _≤_, _<_}
-use mathlib.Core.Path.{_≡_, refl, sym, ap, ap₂, _∙_}
+use mathlib.Core.Path.{_≡_, sym, ap, _∙_}
 use mathlib.Core.Bool.{Bool, true, false}
-use mathlib.Core.List.{List, [], _∷_}
+use mathlib.Core.List.{List, _∷_}
 use native.Mathlib.Omega.{arith}
-use native.Mathlib.Decide.{ℕ-discrete}
 use native.Mathlib.Numerals.{add-one}
 use lib.ListN.{length, getD, drop}
-use lib.Dec.{eqb}
 use borrow.Author.Tests.{eq-eqb, ne-eqb, lt-ltb, le-ltb, le-leb, lt-leb, eqb-true}
 use Rattle.laws.specs.Choice.{pick}
 use Rattle.laws.specs.ChoiceLaws.{pick-true, pick-false}
@@ -22,9 +20,9 @@ use Rattle.sheet.proofs.Faults.{both-accept}
 use Rattle.sheet.proofs.WritingLaws.{set-counts}
 use Rattle.text.specs.Refusing.{refusedLine}
 use Rattle.text.specs.Ascii.{ascii}
-use Rattle.sheet_text.specs.Faults.{LONG, FIRST, faultAt}
+use Rattle.sheet_text.specs.Faults.{LONG, FIRST, faultAt, unless}
 use Rattle.sheet_text.specs.Words.{linesOf, wordOf, wordEnd, afterWord, blanksOf, sameBytes}
-use Rattle.sheet_text.specs.Meaning.{Line, lineAt, worded, numbersSaid, firstLineSaid, faultyNumbers, meantNothing, rowsMeant, pageMeant, mostBytes, meaningOf}
+use Rattle.sheet_text.specs.Meaning.{TextLine, lineAt, worded, numbersSaid, firstLineSaid, faultyNumbers, meantNothing, rowsMeant, pageMeant, mostBytes, meaningOf}
 use Rattle.sheet_text.specs.Parts.{contentAt, linesFrom, Finds}
 use Rattle.sheet_text.specs.Composing.{refusedText, answerOf, composeAnswer, composed, placedLine, answerLine}
 use Rattle.sheet_text.specs.Listing.{listing, listed}
@@ -33,6 +31,7 @@ use Rattle.sheet_text.specs.declared.Numbers.{Numbers}
 use Rattle.sheet_text.specs.declared.Next.{Next}
 use Rattle.sheet_text.specs.declared.Meaning.{Meaning}
 use Rattle.sheet_text.specs.declared.Answer.{Answer}
+use Rattle.sheet_text.proofs.FaultLaws.{unless-faulty, unless-clear}
 use Rattle.sheet_text.proofs.NumberLaws.{first-byte}
 
 pub meaning-long : (text : List ℕ) → mostBytes < length text → meantNothing (faultAt LONG 1 1) ≡ meaningOf text
@@ -53,7 +52,7 @@ module _ (text : List ℕ) (short : length text ≤ mostBytes) (next : Next) (fi
       ∙ page
 
   module _ (h : next .found ≡ true) (numbers : Numbers) (e : numbers ≡ firstLineSaid (next .number) (contentAt text next)) where
-    after : List Line
+    after : List TextLine
     after = worded (suc (next .number)) (linesOf (drop (next .after) text))
 
     first : pageMeant (length (linesOf text)) (lineAt (next .number) (contentAt text next) ∷ after) ≡ meaningOf text
@@ -63,16 +62,15 @@ module _ (text : List ℕ) (short : length text ≤ mostBytes) (next : Next) (fi
     pub meaning-faulty : (numbers .fault .number ≡ 0 → ⊥) → meantNothing (numbers .fault) ≡ meaningOf text
     unfolding pageMeant
     meaning-faulty d =
-        sym (pick-false _ (rowsMeant (getD (numbers .values) 0 0) after) _ (ne-eqb (numbers .fault .number) 0 d))
-        ∙ ap (λ (n : Numbers). pick (eqb (n .fault .number) 0) (rowsMeant (getD (n .values) 0 0) after) (meantNothing (n .fault))) e
+        unless-faulty (rowsMeant (getD (firstLineSaid (next .number) (contentAt text next) .values) 0 0) after) meantNothing _ (numbers .fault) (ap (λ (n : Numbers). n .fault) (sym e)) d
         ∙ first
 
     pub meaning-good : numbers .fault .number ≡ 0 → rowsMeant (getD (numbers .values) 0 0) (worded (next .number + 1) (linesOf (drop (next .after) text))) ≡ meaningOf text
     unfolding pageMeant after
     meaning-good z =
         ap (λ (n : ℕ). rowsMeant (getD (numbers .values) 0 0) (worded n (linesOf (drop (next .after) text)))) (add-one (next .number))
-        ∙ sym (pick-true _ _ (meantNothing (numbers .fault)) (eq-eqb (numbers .fault .number) 0 z))
-        ∙ ap (λ (n : Numbers). pick (eqb (n .fault .number) 0) (rowsMeant (getD (n .values) 0 0) after) (meantNothing (n .fault))) e
+        ∙ unless-clear (rowsMeant (getD (numbers .values) 0 0) after) meantNothing (numbers .fault) z
+        ∙ ap (λ (n : Numbers). unless (n .fault) (rowsMeant (getD (n .values) 0 0) after) meantNothing) e
         ∙ first
 
 -- N is a byte.
@@ -86,22 +84,23 @@ processors-byte line content = go (sameBytes (wordOf content) (ascii "processors
 
 -- Composing.
 module _ (text : List ℕ) (m : Meaning) (e : m ≡ meaningOf text) where
-  number-is : m .fault .number ≡ meaningOf text .fault .number
-  number-is = ap (λ (x : Meaning). x .fault .number) e
+  fault-is : meaningOf text .fault ≡ m .fault
+  fault-is = ap (λ (x : Meaning). x .fault) (sym e)
 
   pub compose-faulty : (buffer : List ℕ) → (m .fault .number ≡ 0 → ⊥) → (refusedText (m .fault) ≡ composeAnswer text (length buffer)) × (buffer ≡ composed text buffer)
   unfolding composeAnswer composed
   compose-faulty buffer d =
-      let n = ne-eqb (meaningOf text .fault .number) 0 (λ z. d (number-is ∙ z)) in
-      (ap (λ (x : Meaning). refusedText (x .fault)) e ∙ sym (pick-false _ _ _ n), sym (pick-false _ _ _ n))
+      (unless-faulty _ refusedText (meaningOf text .fault) (m .fault) fault-is d, unless-faulty (written (meaningOf text .set) buffer) (λ fault. buffer) (meaningOf text .fault) (m .fault) fault-is d)
 
   pub compose-good : (buffer after : List ℕ) (refusal : Refusal) → m .fault .number ≡ 0 → refusal ≡ writeRefusal (m .set) (length buffer) → after ≡ written (m .set) buffer
       → (answerOf refusal (m .set .count) ≡ composeAnswer text (length buffer)) × (after ≡ composed text buffer)
   unfolding composeAnswer composed
   compose-good buffer after refusal z r w =
-      let y = eq-eqb (meaningOf text .fault .number) 0 (sym number-is ∙ z) in (
-        ap (λ (x : Refusal). answerOf x (m .set .count)) r ∙ ap (λ (x : Meaning). answerOf (writeRefusal (x .set) (length buffer)) (x .set .count)) e ∙ sym (pick-true _ _ _ y),
-        w ∙ ap (λ (x : Meaning). written (x .set) buffer) e ∙ sym (pick-true _ _ _ y),
+      let clear = ap (λ (f : Fault). f .number) fault-is ∙ z in (
+        ap (λ (x : Refusal). answerOf x (m .set .count)) r
+            ∙ ap (λ (x : Meaning). answerOf (writeRefusal (x .set) (length buffer)) (x .set .count)) e
+            ∙ unless-clear _ refusedText (meaningOf text .fault) clear,
+        w ∙ ap (λ (x : Meaning). written (x .set) buffer) e ∙ unless-clear _ (λ fault. buffer) (meaningOf text .fault) clear,
       )
 
 -- A set that the writer takes has at most 32 rows.

@@ -1,24 +1,23 @@
 -- Laws of marks, words and numbers, as the loops that go through a text's bytes need them.
-use Prim.Native.Nat.{ℕ, zero, suc, _+_, _*_, _-_, _≤_, _<_}
+use Prim.Native.Nat.{ℕ, suc, _+_, _*_, _-_, _≤_, _<_}
 use mathlib.Core.Path.{_≡_, refl, sym, ap, _∙_}
-use mathlib.Core.Bool.{Bool, true, false, not}
+use mathlib.Core.Bool.{Bool, true, false}
 use mathlib.Core.List.{List, [], _∷_}
 use native.Mathlib.Omega.{arith}
 use native.Mathlib.Decide.{decLt}
 use native.Mathlib.Numerals.{add-one}
 use lib.ListN.{length, getD, take, drop, length-drop, drop-of-length-le}
 use lib.Seq.{drop-cons, take-all, take-take}
-use lib.Dec.{eqb, ltb}
+use lib.Dec.{eqb}
 use borrow.Author.Tests.{eq-eqb, ne-eqb, lt-ltb, le-ltb}
-use Rattle.laws.specs.Choice.{pick, firstOf}
+use Rattle.laws.specs.Choice.{firstOf}
 use Rattle.laws.specs.ChoiceLaws.{pick-true}
 use Rattle.sheet_text.specs.Faults.{NUMBER, LARGE, FEW}
-use Rattle.sheet_text.specs.Words.{isMark, isDigit, before, firstLine, contentOf, blanksOf, hasWord, wordOf, sameBytes, allDigits, valueFrom, valueOf, numberFault, numberSaid, fieldSaid}
-use Rattle.sheet_text.specs.Parts.{tooLarge, capped, cutOf}
+use Rattle.sheet_text.specs.Words.{isMark, isDigit, bytesBefore, contentOf, blanksOf, hasWord, wordOf, wordEnd, sameBytes, allDigits, valueFrom, valueOf, numberFault, numberSaid, fieldSaid}
+use Rattle.sheet_text.specs.Parts.{firstLine, tooLarge, capped, cutOf}
 use Rattle.sheet_text.specs.declared.Mark.{Mark}
 use Rattle.sheet_text.specs.declared.Mark.the-variants.{Newline, Hash, Blank, Visible}
 use Rattle.sheet_text.specs.declared.Field.{Field}
-use Rattle.sheet_text.specs.declared.Cut.{Cut}
 use Rattle.sheet_text.specs.declared.Number.{Number}
 
 -- What is left of a list from place i on begins with element i.
@@ -27,42 +26,42 @@ next t i h = rw (add-one i) (drop-cons t i 0 h)
 
 -- A loop that looks for a mark stands at i.
 module _ (m : Mark) where
-  hit : (b : ℕ) (t : List ℕ) → isMark m b ≡ true → length (before m (b ∷ t)) ≡ 0
-  unfolding before
-  hit b t e = rw (e, before)
+  hit : (b : ℕ) (t : List ℕ) → isMark m b ≡ true → length (bytesBefore m (b ∷ t)) ≡ 0
+  unfolding bytesBefore
+  hit b t e = rw (e, bytesBefore)
 
-  skip : (b : ℕ) (t : List ℕ) → isMark m b ≡ false → before m (b ∷ t) ≡ b ∷ before m t
-  unfolding before
-  skip b t e = rw (e, before)
+  skip : (b : ℕ) (t : List ℕ) → isMark m b ≡ false → bytesBefore m (b ∷ t) ≡ b ∷ bytesBefore m t
+  unfolding bytesBefore
+  skip b t e = rw (e, bytesBefore)
 
-  pub before-hit : (t : List ℕ) (i : ℕ) → i < length t → isMark m (getD t i 0) ≡ true → length (before m (drop i t)) ≡ 0
-  before-hit t i h e = ap (λ (x : List ℕ). length (before m x)) (next t i h) ∙ hit (getD t i 0) (drop (i + 1) t) e
+  pub before-hit : (t : List ℕ) (i : ℕ) → i < length t → isMark m (getD t i 0) ≡ true → length (bytesBefore m (drop i t)) ≡ 0
+  before-hit t i h e = ap (λ (x : List ℕ). length (bytesBefore m x)) (next t i h) ∙ hit (getD t i 0) (drop (i + 1) t) e
 
   pub before-skip : (t : List ℕ) (i : ℕ) → i < length t → isMark m (getD t i 0) ≡ false
-      → length (before m (drop i t)) ≡ suc (length (before m (drop (i + 1) t)))
-  before-skip t i h e = ap (λ (x : List ℕ). length (before m x)) (next t i h) ∙ ap length (skip (getD t i 0) (drop (i + 1) t) e)
+      → length (bytesBefore m (drop i t)) ≡ suc (length (bytesBefore m (drop (i + 1) t)))
+  before-skip t i h e = ap (λ (x : List ℕ). length (bytesBefore m x)) (next t i h) ∙ ap length (skip (getD t i 0) (drop (i + 1) t) e)
 
-  pub before-end : (t : List ℕ) (i : ℕ) → length t ≤ i → length (before m (drop i t)) ≡ 0
-  unfolding before
-  before-end t i h = ap (λ (x : List ℕ). length (before m x)) (drop-of-length-le t {i = i} h)
+  pub before-end : (t : List ℕ) (i : ℕ) → length t ≤ i → length (bytesBefore m (drop i t)) ≡ 0
+  unfolding bytesBefore
+  before-end t i h = ap (λ (x : List ℕ). length (bytesBefore m x)) (drop-of-length-le t {i = i} h)
 
   -- What stands before a mark is a beginning of the text.
-  pub before-short : (t : List ℕ) → length (before m t) ≤ length t
-  unfolding before
+  pub before-short : (t : List ℕ) → length (bytesBefore m t) ≤ length t
+  unfolding bytesBefore
   before-short [] = omega arith
   before-short (b ∷ t) = go (isMark m b) (before-short t)
     where
-      go : (x : Bool) → length (before m t) ≤ length t → length {A = ℕ} (elim x [ true ↦ [] | false ↦ b ∷ before m t ]) ≤ suc (length t)
+      go : (x : Bool) → length (bytesBefore m t) ≤ length t → length {A = ℕ} (elim x [ true ↦ [] | false ↦ b ∷ bytesBefore m t ]) ≤ suc (length t)
       go true ih = omega arith
       go false ih = omega arith
 
-  pub before-take : (t : List ℕ) → take (length (before m t)) t ≡ before m t
-  unfolding before
+  pub before-take : (t : List ℕ) → take (length (bytesBefore m t)) t ≡ bytesBefore m t
+  unfolding bytesBefore
   before-take [] = refl
   before-take (b ∷ t) = go (isMark m b) (before-take t)
     where
-      go : (x : Bool) → take (length (before m t)) t ≡ before m t
-          → (let y : List ℕ = elim x [ true ↦ [] | false ↦ b ∷ before m t ] in take (length y) (b ∷ t) ≡ y)
+      go : (x : Bool) → take (length (bytesBefore m t)) t ≡ bytesBefore m t
+          → (let y : List ℕ = elim x [ true ↦ [] | false ↦ b ∷ bytesBefore m t ] in take (length y) (b ∷ t) ≡ y)
       go true ih = refl
       go false ih = ap (λ (x : List ℕ). b ∷ x) ih
 
@@ -180,29 +179,28 @@ module _ (most : ℕ) (w : List ℕ) (fits : most < tooLarge) (d : allDigits w �
       let k = within-most h in
       rw (d, le-ltb most (valueOf w) (k .0)) (ap (λ (v : ℕ). record { fault = 0; value = v }) (k .1))
 
--- A test that is asked the other way round.
-pub from-not : (b c : Bool) → not b ≡ c → b ≡ not c
-from-not true c h = rw (sym h)
-from-not false c h = rw (sym h)
-
 -- A part of a list up to its end.
 pub to-end : (l : List ℕ) (a : ℕ) → take (length l - a) (drop a l) ≡ drop a l
 to-end l a = take-all (length l - a) (drop a l) (omega (arith, length-drop a l))
 
+pub word-end : (line : List ℕ) → wordEnd line ≤ length line
+word-end line =
+    omega (arith, before-short Visible line, before-short Blank (drop (blanksOf line) line), length-drop (blanksOf line) line)
+
 -- The next word of what is left of a line, where its blanks and its bytes have been counted.
-module _ (left : List ℕ) (start size : ℕ) (blanks : start ≡ blanksOf left) (bytes : size ≡ length (before Blank (take (length left - start) (drop start left)))) where
-  word-here : before Blank (drop start left) ≡ wordOf left
-  word-here = ap (λ (a : ℕ). before Blank (drop a left)) blanks
+module _ (left : List ℕ) (start size : ℕ) (blanks : start ≡ blanksOf left) (bytes : size ≡ length (bytesBefore Blank (take (length left - start) (drop start left)))) where
+  word-here : bytesBefore Blank (drop start left) ≡ wordOf left
+  word-here = ap (λ (a : ℕ). bytesBefore Blank (drop a left)) blanks
 
   pub word-size : size ≡ length (wordOf left)
-  word-size = bytes ∙ ap (λ (x : List ℕ). length (before Blank x)) (to-end left start) ∙ ap length word-here
+  word-size = bytes ∙ ap (λ (x : List ℕ). length (bytesBefore Blank x)) (to-end left start) ∙ ap length word-here
 
   pub word-within : start + size ≤ length left
-  word-within = omega (arith, before-short Blank (drop start left), ap length word-here, word-size, length-drop start left, before-short Visible left, blanks)
+  word-within = omega (arith, word-end left, blanks, word-size)
 
   pub word-part : take (start + size - start) (drop start left) ≡ wordOf left
   word-part =
-      let e : start + size - start ≡ length (before Blank (drop start left)) = omega (arith, word-size, ap length word-here) in
+      let e : start + size - start ≡ length (bytesBefore Blank (drop start left)) = omega (arith, word-size, ap length word-here) in
       ap (λ (n : ℕ). take n (drop start left)) e ∙ before-take Blank (drop start left) ∙ word-here
 
   pub field-good : (most : ℕ) (number : Number) → start < length left → number ≡ numberSaid most (take (start + size - start) (drop start left))
@@ -221,12 +219,12 @@ unfolding fieldSaid
 field-none most left start e h = rw (le-ltb (blanksOf left) (length left) (omega (arith, e)))
 
 -- The first line of what is left of a text, where its end and its content's have been found.
-module _ (text : List ℕ) (end stop : ℕ) (line-is : end ≡ length (before Newline text)) (content-is : stop ≡ length (before Hash (take end text))) where
-  line-here : take end text ≡ before Newline text
+module _ (text : List ℕ) (end stop : ℕ) (line-is : end ≡ length (bytesBefore Newline text)) (content-is : stop ≡ length (bytesBefore Hash (take end text))) where
+  line-here : take end text ≡ bytesBefore Newline text
   line-here = ap (λ (n : ℕ). take n text) line-is ∙ before-take Newline text
 
   content-here : stop ≡ length (contentOf (firstLine text))
-  content-here = content-is ∙ ap (λ (x : List ℕ). length (before Hash x)) line-here
+  content-here = content-is ∙ ap (λ (x : List ℕ). length (bytesBefore Hash x)) line-here
 
   pub content-part : take stop text ≡ contentOf (firstLine text)
   content-part =
@@ -234,7 +232,7 @@ module _ (text : List ℕ) (end stop : ℕ) (line-is : end ≡ length (before Ne
       sym (take-take stop end text h)
       ∙ ap (λ (n : ℕ). take n (take end text)) content-is
       ∙ before-take Hash (take end text)
-      ∙ ap (before Hash) line-here
+      ∙ ap (bytesBefore Hash) line-here
 
   pub line-within : end ≤ length text
   line-within = omega (arith, line-is, before-short Newline text)

@@ -7,7 +7,7 @@ use native.Mathlib.Omega.{arith}
 use lib.ListN.{length, length-append}
 use lib.Seq.{drop-append-seam, drop-append-add}
 use borrow.Author.Tests.{lt-ltb}
-use Rattle.sheet_text.specs.Words.{isMark, before, linesOf, hasWord, wordOf, afterWord}
+use Rattle.sheet_text.specs.Words.{isMark, bytesBefore, linesOf, hasWord, wordOf, afterWord}
 use Rattle.sheet_text.specs.declared.Mark.{Mark}
 use Rattle.sheet_text.specs.declared.Mark.the-variants.{Newline, Blank, Visible}
 
@@ -28,14 +28,14 @@ abbrev pub Ends : Mark → List ℕ → Type 0
 Ends m [] = Unit
 Ends m (b ∷ text) = isMark m b ≡ true
 
-before-end : (m : Mark) (a rest : List ℕ) → Each (No m) a → Ends m rest → before m (a ++ rest) ≡ a
-unfolding before
+before-end : (m : Mark) (a rest : List ℕ) → Each (No m) a → Ends m rest → bytesBefore m (a ++ rest) ≡ a
+unfolding bytesBefore
 before-end m [] [] n e = refl
-before-end m [] (b ∷ rest) n e = rw (e, before)
-before-end m (b ∷ a) rest n e = rw (n .0, before) (ap (λ (x : List ℕ). b ∷ x) (before-end m a rest (n .1) e))
+before-end m [] (b ∷ rest) n e = rw (e, bytesBefore)
+before-end m (b ∷ a) rest n e = rw (n .0, bytesBefore) (ap (λ (x : List ℕ). b ∷ x) (before-end m a rest (n .1) e))
 
-pub before-all : (m : Mark) (a : List ℕ) → Each (No m) a → before m a ≡ a
-before-all m a n = ap (before m) (sym (append-nil a)) ∙ before-end m a [] n tt
+pub before-all : (m : Mark) (a : List ℕ) → Each (No m) a → bytesBefore m a ≡ a
+before-all m a n = ap (bytesBefore m) (sym (append-nil a)) ∙ before-end m a [] n tt
 
 -- A line, and the lines after it.
 pub lines-next : (a rest : List ℕ) → Each (No Newline) a → linesOf (a ++ 10 ∷ rest) ≡ a ∷ linesOf rest
@@ -54,7 +54,7 @@ visible-next (b ∷ word) rest w = rw (w .whole .0)
 
 -- What is left of a line: blanks, a word, and what ends it.
 module _ (blanks word rest : List ℕ) (b : Each (No Visible) blanks) (w : IsWord word) (e : Ends Blank rest) where
-  blanks-next : before Visible (blanks ++ (word ++ rest)) ≡ blanks
+  blanks-next : bytesBefore Visible (blanks ++ (word ++ rest)) ≡ blanks
   blanks-next = before-end Visible blanks (word ++ rest) b (visible-next word rest w)
 
   pub word-next : wordOf (blanks ++ (word ++ rest)) ≡ word

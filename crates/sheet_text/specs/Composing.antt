@@ -12,11 +12,10 @@ use Rattle.text.specs.Ascii.{ascii}
 use Rattle.text.specs.Decimal.{decimal}
 use Rattle.text.specs.Lines.{line}
 use Rattle.text.specs.Refusing.{refusedLine}
-use Rattle.sheet_text.specs.Faults.{LONG, FIRST, NUMBER, LARGE, FEW, MANY, ROWS}
+use Rattle.sheet_text.specs.Faults.{LONG, FIRST, NUMBER, LARGE, FEW, MANY, ROWS, unless}
 use Rattle.sheet_text.specs.Meaning.{meaningOf}
 use Rattle.sheet_text.specs.declared.Fault.{Fault}
 use Rattle.sheet_text.specs.declared.Answer.{Answer}
-use Rattle.sheet_text.specs.declared.Meaning.{Meaning}
 
 abbrev pub refusedText : Fault → Answer
 refusedText f = record { number = f .number; row = 0; line = f .line; column = f .column; length = 0 }
@@ -28,13 +27,11 @@ answerOf r n = record { number = r .number; row = r .row; line = 0; column = 0; 
 -- The text's own faults first, then the writer's refusals.
 unfoldable pub composeAnswer : List ℕ → ℕ → Answer
 composeAnswer text room =
-    pick (eqb (meaningOf text .fault .number) 0)
-    (answerOf (writeRefusal (meaningOf text .set) room) (meaningOf text .set .count))
-    (refusedText (meaningOf text .fault))
+    unless (meaningOf text .fault) (answerOf (writeRefusal (meaningOf text .set) room) (meaningOf text .set .count)) refusedText
 
 -- What a buffer holds afterwards.
 unfoldable pub composed : List ℕ → List ℕ → List ℕ
-composed text buffer = pick (eqb (meaningOf text .fault .number) 0) (written (meaningOf text .set) buffer) buffer
+composed text buffer = unless (meaningOf text .fault) (written (meaningOf text .set) buffer) (λ fault. buffer)
 
 -- What a fault is called.
 unfoldable pub reason : ℕ → List ℕ

@@ -34,3 +34,7 @@ noFault = faultAt 0 0 0
 -- The first of two that applies.
 abbrev pub orElse : Fault → Fault → Fault
 orElse a b = pick (eqb (a .number) 0) b a
+
+-- What follows unless there is a fault, and what a fault makes of it.
+abbrev pub unless : {A : Type 0} → Fault → A → (Fault → A) → A
+unless fault good bad = pick (eqb (fault .number) 0) good (bad fault)

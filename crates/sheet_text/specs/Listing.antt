@@ -12,7 +12,6 @@ use Rattle.text.specs.Decimal.{decimal}
 use Rattle.text.specs.Lines.{line, linesTo}
 use Rattle.text.specs.Refusing.{refusedLine}
 use Rattle.sheet_text.specs.Meaning.{meaningOf}
-use Rattle.sheet_text.specs.declared.Meaning.{Meaning}
 
 unfoldable pub firstText : ℕ → List ℕ
 firstText N = line (ascii "processors" ∷ decimal N ∷ [])

@@ -3,30 +3,30 @@ use Prim.Native.Nat.{ℕ, zero, suc, _+_}
 use mathlib.Core.Bool.{true, false}
 use mathlib.Core.List.{List, [], _∷_}
 use lib.ListN.{length, getD, replicate}
-use lib.Dec.{eqb, ltb}
+use lib.Dec.{ltb}
 use Rattle.laws.specs.Choice.{pick}
 use Rattle.laws.specs.Tabulate.{padded}
 use Rattle.sheet.specs.declared.Row.{Row}
 use Rattle.sheet.specs.declared.Set.{Set}
 use Rattle.sheet.specs.Ranges.{mostRows, zeroRow, zeroSet}
 use Rattle.text.specs.Ascii.{ascii}
-use Rattle.sheet_text.specs.Faults.{LONG, FIRST, MANY, ROWS, faultAt, noFault, orElse}
-use Rattle.sheet_text.specs.Words.{linesOf, contentOf, blanksOf, hasWord, wordOf, wordEnd, afterWord, sameBytes, valueOf, fieldSaid, limit}
+use Rattle.sheet_text.specs.Faults.{LONG, FIRST, MANY, ROWS, faultAt, noFault, orElse, unless}
+use Rattle.sheet_text.specs.Words.{linesOf, contentOf, blanksOf, hasWord, wordOf, wordEnd, afterWord, sameBytes, valueOf, fieldSaid, numberLimit}
 use Rattle.sheet_text.specs.declared.Fault.{Fault}
 use Rattle.sheet_text.specs.declared.Numbers.{Numbers}
 use Rattle.sheet_text.specs.declared.RowSaid.{RowSaid}
 use Rattle.sheet_text.specs.declared.Meaning.{Meaning}
 
 -- A line with words: its number, and what it says.
-pub record Line : Type 0 where
+pub record TextLine : Type 0 where
   pub number : ℕ
   pub content : List ℕ
 
-abbrev pub lineAt : ℕ → List ℕ → Line
+abbrev pub lineAt : ℕ → List ℕ → TextLine
 lineAt n content = record { number = n; content = content }
 
 -- The lines with words, numbered from n on.
-unfoldable pub worded : ℕ → List (List ℕ) → List Line
+unfoldable pub worded : ℕ → List (List ℕ) → List TextLine
 worded n [] = []
 worded n (line ∷ lines) =
     elim (hasWord (contentOf line)) [ true ↦ lineAt n (contentOf line) ∷ worded (suc n) lines | false ↦ worded (suc n) lines ]
@@ -35,7 +35,7 @@ worded n (line ∷ lines) =
 unfoldable pub numbersFault : (count k line column : ℕ) → List ℕ → Fault
 numbersFault zero k line column left = pick (hasWord left) (faultAt MANY line (column + blanksOf left)) noFault
 numbersFault (suc count) k line column left =
-    orElse (faultAt (fieldSaid (limit k) left .fault) line (column + fieldSaid (limit k) left .place))
+    orElse (faultAt (fieldSaid (numberLimit k) left .fault) line (column + fieldSaid (numberLimit k) left .place))
     (numbersFault count (suc k) line (column + wordEnd left) (afterWord left))
 
 -- What is left of a line after k words, and number k of it.
@@ -55,9 +55,7 @@ faultyNumbers fault = record { fault = fault; values = replicate mostNumbers 0 }
 -- What is left of a line says so many numbers.
 unfoldable pub numbersSaid : (count line column : ℕ) → List ℕ → Numbers
 numbersSaid count line column left =
-    pick (eqb (numbersFault count 0 line column left .number) 0)
-    (record { fault = noFault; values = padded mostNumbers count (valueAt left) 0 })
-    (faultyNumbers (numbersFault count 0 line column left))
+    unless (numbersFault count 0 line column left) (record { fault = noFault; values = padded mostNumbers count (valueAt left) 0 }) faultyNumbers
 
 -- The first line: `processors` and N.
 unfoldable pub firstLineSaid : ℕ → List ℕ → Numbers
@@ -67,8 +65,8 @@ firstLineSaid n content =
     (faultyNumbers (faultAt FIRST n (blanksOf content + 1)))
 
 -- The row of five numbers.
-abbrev pub rowOf : List ℕ → Row
-rowOf values =
+abbrev pub rowOfNumbers : List ℕ → Row
+rowOfNumbers values =
     record {
       processor = getD values 0 0;
       memory = getD values 1 0;
@@ -85,18 +83,18 @@ rowNumbers k n content =
     (faultyNumbers (faultAt ROWS n (blanksOf content + 1)))
 
 unfoldable pub rowSaid : (k n : ℕ) → List ℕ → RowSaid
-rowSaid k n content = record { fault = rowNumbers k n content .fault; row = rowOf (rowNumbers k n content .values) }
+rowSaid k n content = record { fault = rowNumbers k n content .fault; row = rowOfNumbers (rowNumbers k n content .values) }
 
 -- What is wrong with the lines of row k, row k + 1 and so on.
-unfoldable pub rowsFault : ℕ → List Line → Fault
+unfoldable pub rowsFault : ℕ → List TextLine → Fault
 rowsFault k [] = noFault
 rowsFault k (l ∷ lines) = orElse (rowSaid k (l .number) (l .content) .fault) (rowsFault (suc k) lines)
 
-abbrev pub noLine : Line
+abbrev pub noLine : TextLine
 noLine = lineAt 0 []
 
-abbrev pub rowAt : List Line → ℕ → Row
-rowAt lines k = let l = getD lines k noLine in rowSaid k (l .number) (l .content) .row
+abbrev pub rowOfLine : List TextLine → ℕ → Row
+rowOfLine lines k = let l = getD lines k noLine in rowSaid k (l .number) (l .content) .row
 
 abbrev pub meant : Set → Meaning
 meant set = record { fault = noFault; set = set }
@@ -105,18 +103,18 @@ abbrev pub meantNothing : Fault → Meaning
 meantNothing fault = record { fault = fault; set = zeroSet }
 
 -- The lines after the first say the rows of a set with N processors.
-unfoldable pub rowsMeant : ℕ → List Line → Meaning
+unfoldable pub rowsMeant : ℕ → List TextLine → Meaning
 rowsMeant N lines =
-    pick (eqb (rowsFault 0 lines .number) 0)
-    (meant (record { processors = N; count = length lines; rows = padded mostRows (length lines) (rowAt lines) zeroRow }))
-    (meantNothing (rowsFault 0 lines))
+    unless (rowsFault 0 lines)
+    (meant (record { processors = N; count = length lines; rows = padded mostRows (length lines) (rowOfLine lines) zeroRow }))
+    meantNothing
 
 -- The first line, then the rows. A text without words lacks its first line after its last line.
-unfoldable pub pageMeant : (last : ℕ) → List Line → Meaning
+unfoldable pub pageMeant : (last : ℕ) → List TextLine → Meaning
 pageMeant last [] = meantNothing (faultAt FIRST (1 + last) 1)
 pageMeant last (l ∷ lines) =
     let first = firstLineSaid (l .number) (l .content) in
-    pick (eqb (first .fault .number) 0) (rowsMeant (getD (first .values) 0 0) lines) (meantNothing (first .fault))
+    unless (first .fault) (rowsMeant (getD (first .values) 0 0) lines) meantNothing
 
 abbrev pub mostBytes : ℕ
 mostBytes = 65535

@@ -6,8 +6,9 @@ use mathlib.Core.List.{List, [], _∷_}
 use lib.ListN.{length, take, drop}
 use lib.Dec.{ltb}
 use Rattle.laws.specs.Choice.{pick}
-use Rattle.sheet_text.specs.Words.{firstLine, linesOf, contentOf, hasWord}
-use Rattle.sheet_text.specs.Meaning.{Line, lineAt, worded}
+use Rattle.sheet_text.specs.Words.{bytesBefore, linesOf, contentOf, hasWord}
+use Rattle.sheet_text.specs.Meaning.{TextLine, lineAt, worded}
+use Rattle.sheet_text.specs.declared.Mark.the-variants.{Newline}
 use Rattle.sheet_text.specs.declared.Cut.{Cut}
 use Rattle.sheet_text.specs.declared.Next.{Next}
 
@@ -19,6 +20,9 @@ abbrev pub capped : ℕ → ℕ
 capped v = pick (ltb tooLarge v) tooLarge v
 
 -- The first line of what is left of a text.
+abbrev pub firstLine : List ℕ → List ℕ
+firstLine text = bytesBefore Newline text
+
 unfoldable pub cutOf : List ℕ → Cut
 cutOf text =
     record {
@@ -31,7 +35,7 @@ cutOf text =
 abbrev pub contentAt : List ℕ → Next → List ℕ
 contentAt text next = take (next .stop - next .start) (drop (next .start) text)
 
-abbrev pub linesFrom : List ℕ → Next → List Line
+abbrev pub linesFrom : List ℕ → Next → List TextLine
 linesFrom text next =
     pick (next .found) (lineAt (next .number) (contentAt text next) ∷ worded (suc (next .number)) (linesOf (drop (next .after) text))) []
 

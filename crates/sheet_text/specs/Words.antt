@@ -1,5 +1,5 @@
 -- Lines, words and numbers of a text of bytes.
-use Prim.Native.Nat.{ℕ, zero, suc, _+_, _*_, _-_}
+use Prim.Native.Nat.{ℕ, _+_, _*_, _-_}
 use Prim.Native.Char.{code}
 use mathlib.Core.Bool.{Bool, true, false, not, _&&_, _||_}
 use mathlib.Core.List.{List, [], _∷_}
@@ -25,18 +25,15 @@ isMark Hash b = eqb b (code "#")
 isMark Blank b = isBlank b
 isMark Visible b = not (isBlank b)
 
--- What stands before the first mark of that kind, and what stands from it on.
-unfoldable pub before : Mark → List ℕ → List ℕ
-before m [] = []
-before m (b ∷ text) = elim (isMark m b) [ true ↦ [] | false ↦ b ∷ before m text ]
+-- The bytes before the first mark of that kind, and those from it on.
+unfoldable pub bytesBefore : Mark → List ℕ → List ℕ
+bytesBefore m [] = []
+bytesBefore m (b ∷ text) = elim (isMark m b) [ true ↦ [] | false ↦ b ∷ bytesBefore m text ]
 
-abbrev pub from : Mark → List ℕ → List ℕ
-from m text = drop (length (before m text)) text
+abbrev pub bytesFrom : Mark → List ℕ → List ℕ
+bytesFrom m text = drop (length (bytesBefore m text)) text
 
--- The lines: each ends at a newline, the last also where the text ends.
-abbrev pub firstLine : List ℕ → List ℕ
-firstLine text = before Newline text
-
+-- The lines: each ends at a newline, the last also where the text ends. A byte before a newline begins the first of them.
 abbrev pub grown : ℕ → List (List ℕ) → List (List ℕ)
 grown b [] = (b ∷ []) ∷ []
 grown b (line ∷ lines) = (b ∷ line) ∷ lines
@@ -47,17 +44,17 @@ linesOf (b ∷ text) = elim (isMark Newline b) [ true ↦ [] ∷ linesOf text | 
 
 -- What a line says stands before its comment.
 abbrev pub contentOf : List ℕ → List ℕ
-contentOf line = before Hash line
+contentOf line = bytesBefore Hash line
 
 -- The next word of a line: from the first byte that is no blank to the next blank.
 abbrev pub blanksOf : List ℕ → ℕ
-blanksOf line = length (before Visible line)
+blanksOf line = length (bytesBefore Visible line)
 
 abbrev pub hasWord : List ℕ → Bool
 hasWord line = ltb (blanksOf line) (length line)
 
 abbrev pub wordOf : List ℕ → List ℕ
-wordOf line = before Blank (from Visible line)
+wordOf line = bytesBefore Blank (bytesFrom Visible line)
 
 -- Where the word ends, and what follows it.
 abbrev pub wordEnd : List ℕ → ℕ
@@ -100,5 +97,5 @@ fieldSaid most line =
     (record { fault = FEW; place = 0; stop = 0; value = 0 })
 
 -- The most that number k of a line may be: N and a processor, which stand first, are bytes; every other number has four bytes.
-abbrev pub limit : ℕ → ℕ
-limit k = pick (eqb k 0) 255 4294967295
+abbrev pub numberLimit : ℕ → ℕ
+numberLimit k = pick (eqb k 0) 255 4294967295

@@ -10,7 +10,7 @@ ghost use Rattle.sheet.specs.Ranges.{mostRows, rowIn};
 ghost use Rattle.text.specs.Lines.{linesTo};
 ghost use Rattle.text.specs.Putting.{Puts};
 ghost use Rattle.sheet_text.specs.Faults.{faultAt};
-ghost use Rattle.sheet_text.specs.Words.{isBlank, isDigit, isMark, before, linesOf, hasWord, sameBytes, numberSaid, fieldSaid, limit};
+ghost use Rattle.sheet_text.specs.Words.{isBlank, isDigit, isMark, bytesBefore, linesOf, hasWord, sameBytes, numberSaid, fieldSaid, numberLimit};
 ghost use Rattle.sheet_text.specs.Meaning.{worded, mostNumbers, faultyNumbers, numbersSaid, firstLineSaid, rowNumbers, rowSaid, meantNothing, rowsMeant, mostBytes, meaningOf};
 ghost use Rattle.sheet_text.specs.Parts.{capped, cutOf, Finds};
 ghost use Rattle.sheet_text.specs.Composing.{refusedText, answerOf, composeAnswer, composed, reason, answerLine};
@@ -125,7 +125,7 @@ fn is_mark(mark: Mark, byte: u8) -> bool
 
 // How many bytes stand before the first mark of that kind.
 fn length_before(mark: Mark, text: &[u8]) -> usize
-    ensures { λ r. ⌜ r ≡ length (before mark (now (text .entry))) ⌝ }
+    ensures { λ r. ⌜ r ≡ length (bytesBefore mark (now (text .entry))) ⌝ }
 {
     let mut i: usize = 0;
     while i < text.len() {
@@ -203,8 +203,8 @@ fn has_word(line: &[u8]) -> bool
     length_before(Mark::Visible, line) < line.len()
 }
 
-fn limit_of(k: usize) -> u32
-    ensures { λ r. ⌜ r ≡ limit k ⌝ }
+fn number_limit(k: usize) -> u32
+    ensures { λ r. ⌜ r ≡ numberLimit k ⌝ }
 {
     if k == 0 { MOST_BYTE } else { MOST_WORD }
 }
@@ -259,7 +259,7 @@ fn numbers_in(left: &[u8], line: usize, column: usize, count: usize) -> Numbers
     let mut at: usize = 0;
     let mut k: usize = 0;
     while k < count {
-        let field = next_field(&left[at..], limit_of(k));
+        let field = next_field(&left[at..], number_limit(k));
         if field.fault != faults::NONE {
             return no_numbers(field.fault, line, column + at + field.place);
         }

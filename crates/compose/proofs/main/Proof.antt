@@ -1,5 +1,5 @@
 use Prim.Native.Nat.{_≤_}
-use mathlib.Core.Path.{_≡_, ap, sym}
+use mathlib.Core.Path.{ap, sym}
 use lib.ListN.{length}
 use lib.Seq.{length-take-le}
 use Rattle.sheet_text.specs.declared.Answer.{Answer}

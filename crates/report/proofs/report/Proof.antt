@@ -1,6 +1,4 @@
-use mathlib.Core.Path.{_≡_, ap, subst}
-use mathlib.Core.List.{List}
-use Prim.Native.Nat.{ℕ, _≤_}
+use mathlib.Core.Path.{ap}
 use Rattle.sheet.specs.declared.Reading.{Reading}
 use Rattle.sheet.proofs.ReadingLaws.{rows-most}
 use Rattle.report.proofs.ReportLaws.{report-refused, report-accepted}

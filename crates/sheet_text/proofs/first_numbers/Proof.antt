@@ -1,9 +1,10 @@
+use borrow.Author.Tests.{not-true, not-false}
 use native.Mathlib.Omega.{arith}
-use Prim.Native.Nat.{ℕ, _+_, _≤_}
-use mathlib.Core.Path.{_≡_, ap, _∙_}
+use Prim.Native.Nat.{_+_}
+use mathlib.Core.Path.{ap, _∙_}
 use lib.ListN.{length, length-drop}
 use Rattle.sheet_text.specs.declared.Mark.the-variants.{Visible}
-use Rattle.sheet_text.proofs.WordLaws.{before-short, from-not, to-end, word-within}
+use Rattle.sheet_text.proofs.WordLaws.{before-short, to-end, word-within}
 use Rattle.sheet_text.proofs.MeaningLaws.{first-faulty, first-good}
 use borrow.Author.Needs.{needs}
 use Rattle.sheet_text.proofs.first_numbers.Statement.{statement}
@@ -49,7 +50,7 @@ no-numbers-requires : tie.Need-no-numbers-requires
 no-numbers-requires c κs = search needs
 
 returns : tie.Need-returns
-returns c = c .no-numbers .ensures ∙ first-faulty (c .before .before .before .before .before .before .before .before .before .args .content .now) _ _ (c .before .before .before .before .before .before .before .length-before .ensures) (c .before .before .before .before .before .length-before2 .ensures) _ _ (c .before .before .same-bytes .ensures) (from-not _ _ (c .before .if1 .taken))
+returns c = c .no-numbers .ensures ∙ first-faulty (c .before .before .before .before .before .before .before .before .before .args .content .now) _ _ (c .before .before .before .before .before .before .before .length-before .ensures) (c .before .before .before .before .before .length-before2 .ensures) _ _ (c .before .before .same-bytes .ensures) (not-true _ (c .before .if1 .taken))
 
 sub-numbers-in : tie.Need-sub-numbers-in
 sub-numbers-in c = word-within (c .before .before .before .before .before .before .before .before .args .content .now) _ _ (c .before .before .before .before .before .before .length-before .ensures) (c .before .before .before .before .length-before2 .ensures)
@@ -70,7 +71,7 @@ numbers-in-requires c κs =
     (omega arith, omega (arith, ap length (to-end content stop), length-drop stop content), omega (arith, word-within (c .before .before .before .before .before .before .before .before .before .args .content .now) _ _ (c .before .before .before .before .before .before .before .length-before .ensures) (c .before .before .before .before .before .length-before2 .ensures)))
 
 returns-2 : tie.Need-returns-2
-returns-2 c = c .numbers-in .ensures ∙ first-good (c .before .before .before .before .before .before .before .before .before .before .args .content .now) _ _ (c .before .before .before .before .before .before .before .before .length-before .ensures) (c .before .before .before .before .before .before .length-before2 .ensures) _ _ (c .before .before .before .same-bytes .ensures) (from-not _ _ (c .before .before .if1 .left))
+returns-2 c = c .numbers-in .ensures ∙ first-good (c .before .before .before .before .before .before .before .before .before .before .args .content .now) _ _ (c .before .before .before .before .before .before .before .before .length-before .ensures) (c .before .before .before .before .before .before .length-before2 .ensures) _ _ (c .before .before .before .same-bytes .ensures) (not-false _ (c .before .before .if1 .left))
 
 pub first-numbers-spec : {M : Type 1} → statement M
 first-numbers-spec =

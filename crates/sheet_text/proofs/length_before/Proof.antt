@@ -1,6 +1,6 @@
 use native.Mathlib.Omega.{arith}
 use borrow.Author.Needs.{needs}
-use Prim.Native.Nat.{ℕ, _+_, _-_, _≤_}
+use Prim.Native.Nat.{_+_, _-_, _≤_}
 use mathlib.Core.Path.{_≡_, sym, _∙_}
 use lib.ListN.{length, drop}
 use Rattle.sheet_text.specs.Words as spec
@@ -9,7 +9,7 @@ use Rattle.sheet_text.proofs.length_before.Statement.{statement}
 use Rattle.sheet_text.proofs.length_before.Tie as tie
 
 abbrev Inv-loop : tie.InvT-loop
-Inv-loop mark text i₀ i = (i ≤ length text) × (length (spec.before mark text) ≡ i + length (spec.before mark (drop i text)))
+Inv-loop mark text i₀ i = (i ≤ length text) × (length (spec.bytesBefore mark text) ≡ i + length (spec.bytesBefore mark (drop i text)))
 
 abbrev μ-loop : tie.MeasureT-loop
 μ-loop mark text i₀ i = length text - i

@@ -1,12 +1,12 @@
+use borrow.Author.Tests.{not-true, not-false}
 use native.Mathlib.Omega.{arith}
-use Prim.Native.Nat.{ℕ, _-_}
+use Prim.Native.Nat.{_-_}
 use mathlib.Core.Bool.{true}
 use mathlib.Core.Path.{_≡_, ap, _∙_}
-use lib.ListN.{length, getD, drop, length-take, length-drop}
+use lib.ListN.{getD, drop, length-take, length-drop}
 use Rattle.sheet_text.specs.Meaning.{meantNothing}
 use Rattle.sheet_text.specs.Parts.{contentAt}
 use Rattle.sheet_text.specs.declared.Numbers.{Numbers}
-use Rattle.sheet_text.proofs.WordLaws.{from-not}
 use Rattle.sheet_text.proofs.TextLaws.{meaning-long, meaning-none, meaning-faulty, meaning-good, processors-byte}
 use borrow.Author.Needs.{needs}
 use Rattle.sheet_text.proofs.meaning_of.Statement.{statement}
@@ -19,7 +19,7 @@ meant-nothing-requires : tie.Need-meant-nothing-requires
 meant-nothing-requires c κs = search needs
 
 found : (c : tie.Else2) → c .before .before .next-line .result .found ≡ true
-found c = from-not _ _ (c .if2 .left)
+found c = not-false _ (c .if2 .left)
 
 returns : tie.Need-returns
 returns c = c .meant-nothing .ensures ∙ ap meantNothing (c .before .fault-at .ensures) ∙ meaning-long _ (omega arith)
@@ -34,7 +34,7 @@ meant-nothing-requires-2 : tie.Need-meant-nothing-requires-2
 meant-nothing-requires-2 c κs = search needs
 
 returns-2 : tie.Need-returns-2
-returns-2 c = c .meant-nothing2 .ensures ∙ ap meantNothing (c .before .fault-at2 .ensures) ∙ meaning-none _ (c .before .before .before .before .before .if1 .left) _ (c .before .before .before .before .next-line .ensures) (from-not _ _ (c .before .before .if2 .taken))
+returns-2 c = c .meant-nothing2 .ensures ∙ ap meantNothing (c .before .fault-at2 .ensures) ∙ meaning-none _ (c .before .before .before .before .before .if1 .left) _ (c .before .before .before .before .next-line .ensures) (not-true _ (c .before .before .if2 .taken))
 
 sub-first-numbers : tie.Need-sub-first-numbers
 sub-first-numbers c = c .before .before .next-line .ensures .content-within (found c) .0

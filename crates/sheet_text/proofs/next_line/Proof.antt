@@ -1,6 +1,6 @@
 use native.Mathlib.Omega.{arith}
-use Prim.Native.Nat.{ℕ, _+_, _-_, _≤_}
-use mathlib.Core.Path.{_≡_, ap}
+use Prim.Native.Nat.{_+_, _-_}
+use mathlib.Core.Path.{ap}
 use lib.ListN.{length, length-drop}
 use Rattle.sheet_text.specs.Meaning.{mostBytes}
 use Rattle.sheet_text.proofs.WordLaws.{to-end}

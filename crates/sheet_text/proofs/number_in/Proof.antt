@@ -1,7 +1,7 @@
 use mathlib.Core.Bool.{true, and-eq-true-iff}
 use Prim.Native.Nat.{_*_}
 use lib.ListN.{getD}
-use borrow.Author.Tests.{leb-true}
+use borrow.Author.Tests.{not-true, not-false, leb-true}
 use native.Mathlib.Omega.{arith}
 use borrow.Author.Needs.{needs}
 use Prim.Native.Nat.{ℕ, _+_, _-_, _≤_}
@@ -28,7 +28,7 @@ abbrev μ-loop : tie.MeasureT-loop
 μ-loop word most value₀ i₀ value i = length word - i
 
 is-digit : (c : tie.Else1 Inv-loop μ-loop) → spec.isDigit (getD (c .before .before .before .before .before .before .args .word .now) (c .before .before .before .before .loop .i) 0) ≡ true
-is-digit c = sym (c .before .is-digit .ensures) ∙ laws.from-not _ _ (c .if1 .left)
+is-digit c = sym (c .before .is-digit .ensures) ∙ not-false _ (c .if1 .left)
 
 at-least-0 : (c : tie.Else1 Inv-loop μ-loop) → 48 ≤ getD (c .before .before .before .before .before .before .args .word .now) (c .before .before .before .before .loop .i) 0
 at-least-0 c = let d = simp and-eq-true-iff at (is-digit c) in omega (arith, leb-true)
@@ -49,7 +49,7 @@ returns : tie.Need-returns Inv-loop μ-loop
 returns c =
     let a = c .before .before .before in
     c .no-number .ensures
-    ∙ laws.number-bad _ _ (a .before .before .loop .inv .digits ∙ laws.digits-stop (a .before .before .before .before .args .word .now) (a .before .before .loop .i) (omega arith) (sym (c .before .before .is-digit .ensures) ∙ laws.from-not _ _ (c .before .if1 .taken)))
+    ∙ laws.number-bad _ _ (a .before .before .loop .inv .digits ∙ laws.digits-stop (a .before .before .before .before .args .word .now) (a .before .before .loop .i) (omega arith) (sym (c .before .before .is-digit .ensures) ∙ not-true _ (c .before .if1 .taken)))
 
 mul-cap : tie.Need-mul-cap Inv-loop μ-loop
 mul-cap c = omega arith

@@ -1,8 +1,7 @@
 use native.Mathlib.Omega.{arith}
 use borrow.Author.Needs.{needs}
-use Prim.Native.Nat.{ℕ, _+_, _-_, _≤_}
-use mathlib.Core.Path.{_≡_, refl, sym, ap, _∙_}
-use mathlib.Core.List.{List}
+use Prim.Native.Nat.{ℕ, _-_, _≤_}
+use mathlib.Core.Path.{_≡_, ap, _∙_}
 use lib.ListN.{length, take, drop}
 use Rattle.sheet_text.specs.Words as words
 use Rattle.sheet_text.specs.Meaning as spec
@@ -19,11 +18,11 @@ abbrev μ-loop : tie.MeasureT-loop
 -- The field that was found, and the loop it was found in.
 field-is : (c : tie.After-next-field Inv-loop μ-loop)
     → let l = c .before .before .before .before .loop in let left = c .before .before .before .before .before .before .args .left .now in
-    c .next-field .result ≡ words.fieldSaid (words.limit (l .k)) (take (length left - l .at) (drop (l .at) left))
+    c .next-field .result ≡ words.fieldSaid (words.numberLimit (l .k)) (take (length left - l .at) (drop (l .at) left))
 field-is c =
     let l = c .before .before .before .before .loop in
     let left = c .before .before .before .before .before .before .args .left .now in
-    c .next-field .ensures ∙ ap (λ (most : ℕ). words.fieldSaid most (take (length left - l .at) (drop (l .at) left))) (c .before .limit-of .ensures)
+    c .next-field .ensures ∙ ap (λ (most : ℕ). words.fieldSaid most (take (length left - l .at) (drop (l .at) left))) (c .before .number-limit .ensures)
 
 loop-holds : tie.Need-loop-holds Inv-loop μ-loop
 loop-holds c = (laws.taken-none _ _ _ _ (c .before .pre .0), c .before .pre .1, c .before .pre .2)
@@ -37,8 +36,8 @@ part-next-field-start c = omega arith
 part-next-field-end : tie.Need-part-next-field-end Inv-loop μ-loop
 part-next-field-end c = omega arith
 
-limit-of-requires : tie.Need-limit-of-requires Inv-loop μ-loop
-limit-of-requires c κs = search needs
+number-limit-requires : tie.Need-number-limit-requires Inv-loop μ-loop
+number-limit-requires c κs = search needs
 
 next-field-requires : tie.Need-next-field-requires Inv-loop μ-loop
 next-field-requires c κs = search needs
@@ -127,7 +126,7 @@ numbers-in-spec =
     sub-next-field
     part-next-field-start
     part-next-field-end
-    limit-of-requires
+    number-limit-requires
     next-field-requires
     add-no-numbers
     add-no-numbers-2

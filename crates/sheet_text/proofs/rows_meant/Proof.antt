@@ -1,8 +1,8 @@
 use native.Mathlib.Omega.{arith}
 use borrow.Author.Needs.{needs}
-use Prim.Native.Nat.{ℕ, _+_, _-_, _≤_}
-use mathlib.Core.Path.{_≡_, ap, _∙_}
-use lib.ListN.{length, take, drop, length-take, length-drop}
+use Prim.Native.Nat.{_+_, _-_}
+use mathlib.Core.Path.{_∙_}
+use lib.ListN.{drop, length-take, length-drop}
 use Rattle.laws.specs.TabulateLaws.{padded-none}
 use Rattle.sheet.specs.Ranges.{mostRows, zeroRow}
 use Rattle.sheet_text.specs.Words.{linesOf}
