@@ -1,5 +1,5 @@
 -- Laws of choices, and the chain of early returns that carries out a table.
-use mathlib.Core.Path.{_≡_, refl}
+use mathlib.Core.Path.{_≡_, refl, sym}
 use mathlib.Core.List.{List, [], _∷_}
 use mathlib.Core.Bool.{Bool, true, false, not}
 use Prim.Native.Nat.{ℕ, suc}
@@ -16,6 +16,12 @@ pick-false t a b h = rw h
 
 pub true-not-false : {A : Type 0} (t : Bool) → t ≡ true → t ≡ false → A
 true-not-false t p q = absurd (let z : _≡_ {A = ℕ} 0 1 = cc in omega arith)
+
+-- Two tests that hold together are the same.
+pub both-ways : (a b : Bool) → (a ≡ true → b ≡ true) → (b ≡ true → a ≡ true) → a ≡ b
+both-ways true b f g = sym (f refl)
+both-ways false true f g = g refl
+both-ways false false f g = refl
 
 -- `search chain depth 16` goes down a table line by line, with the tests that led to a return.
 pub hit : (t : Bool) (n : ℕ) (more : List Line) → t ≡ true → n ≡ firstOf (t gives n ∷ more)
