@@ -1,5 +1,6 @@
 pub mod Faults
 pub mod ReadingLaws
+pub mod Ranks
 pub mod ShowingLaws
 pub mod WritingLaws
 pub mod RoundTrip

@@ -66,7 +66,7 @@ each-of-row N b r = (
 )
 
 -- A refusal without a row carries none.
-whole : (k : ℕ) → Carries (refused k 0)
+pub whole : (k : ℕ) → Carries (refused k 0)
 whole k = record { no-row = λ h. refl; no-instance = λ h. refl }
 
 at-record : (k i : ℕ) → OfRecord k → (k ≡ 0 → i ≡ 0) → Carries (refused k i)
@@ -76,8 +76,9 @@ at-record k i h z =
       no-instance = λ e. refl;
     }
 
-either : (a b : Refusal) → Carries a → Carries b → Carries (orElse a b)
-either a b p q = go (eqb (a .number) 0)
+-- The first of two that applies.
+pub or-carries : (a b : Refusal) → Carries a → Carries b → Carries (orElse a b)
+or-carries a b p q = go (eqb (a .number) 0)
   where
     go : (t : Bool) → Carries (pick t b a)
     go true = q
@@ -106,13 +107,13 @@ record-of-record s i =
 
 pub read-carries : (s : List ℕ) → Carries (readRefusal s)
 unfolding readRefusal
-read-carries s = either _ _ (whole (headerFault s)) (of-rows (recordFault s) (countOf s) (record-of-record s))
+read-carries s = or-carries _ _ (whole (headerFault s)) (of-rows (recordFault s) (countOf s) (record-of-record s))
 
 pub write-carries : (set : Set) (room : ℕ) → Carries (writeRefusal set room)
 unfolding writeRefusal setRefusal setRowFault
 write-carries set room =
-    either _ _
-    (either _ _ (whole (countFault (set .processors) (set .count)))
+    or-carries _ _
+    (or-carries _ _ (whole (countFault (set .processors) (set .count)))
     (of-rows (setRowFault set) (set .count) (λ i. row-of-record (set .processors) (before (rowIn set) i) (rowIn set i))))
     (whole _)
 
