@@ -1,7 +1,6 @@
--- The analysis of a sheet, case by case: a sheet that doesn't read, too little room, a refused row, acceptance.
+-- The analysis of a reading, case by case: a refused reading, too little room, a refused row, acceptance; and a sheet's, by its reading.
 use Prim.Native.Nat.{ℕ, _≤_, _<_}
-use mathlib.Core.Path.{_≡_, sym, ap, _∙_}
-use mathlib.Core.Bool.{true}
+use mathlib.Core.Path.{_≡_, refl, sym, ap, subst, _∙_}
 use mathlib.Core.List.{List, _++_}
 use native.Mathlib.Omega.{arith}
 use lib.ListN.{length, take, drop}
@@ -10,28 +9,19 @@ use borrow.Author.Tests.{eq-eqb, ne-eqb, lt-ltb, le-ltb}
 use Rattle.laws.specs.Choice.{firstOf}
 use Rattle.sheet.specs.declared.Refusal.{Refusal}
 use Rattle.sheet.specs.declared.Reading.{Reading}
-use Rattle.sheet.specs.Refusals.{ROOM, refused, accepted, accepts, orElse}
+use Rattle.sheet.specs.Refusals.{ROOM, refused, accepted, orElse}
 use Rattle.sheet.specs.Ranges.{WellFormed}
-use Rattle.sheet.specs.Reading.{readRefusal, setOf, readSheet}
-use Rattle.sheet.proofs.ReadingLaws.{well-formed}
+use Rattle.sheet.specs.Reading.{readRefusal, readSheet}
+use Rattle.sheet.proofs.Faults.{or-first, or-second}
+use Rattle.sheet.proofs.ReadingLaws.{read-accepted, well-formed}
 use Rattle.analysis.specs.Bounds.{Accepted, analyseSet}
 use Rattle.analysis.specs.Analysis.{refusalOf, roomRefusal, readingRefusal, readingBounds, analyseRefusal, analysed}
-use Rattle.analysis.specs.Columns.{Answers}
+use Rattle.analysis.specs.Columns.{Answers, WellRead}
 
--- What was read with no refusal is well-formed.
-pub reading-well-formed : (s : List ℕ) (reading : Reading) → reading ≡ readSheet s → reading .refusal .number ≡ 0 → WellFormed (reading .set)
+-- What is read of a sheet can be analysed.
+pub sheet-well-read : (s : List ℕ) → WellRead (readSheet s)
 unfolding readSheet
-reading-well-formed s reading e h =
-    let n : readRefusal s .number ≡ 0 = sym (ap (λ (r : Reading). r .refusal .number) e) ∙ h in
-    let p : accepts (readRefusal s) ≡ true = eq-eqb (readRefusal s .number) 0 n in
-    let q : reading .set ≡ setOf s = ap (λ (r : Reading). r .set) e ∙ rw p in
-    rw q (well-formed s n)
-
-or-first : (a b : Refusal) → (a .number ≡ 0 → ⊥) → orElse a b ≡ a
-or-first a b n = rw (ne-eqb (a .number) 0 n)
-
-or-second : (a b : Refusal) → a .number ≡ 0 → orElse a b ≡ b
-or-second a b e = rw (eq-eqb (a .number) 0 e)
+sheet-well-read s h = subst WellFormed (ap (λ (r : Reading). r .set) (read-accepted s (readRefusal s) refl h)) (well-formed s h)
 
 module _ (n places : ℕ) where
   room-short : places < n → roomRefusal n places ≡ refused ROOM 0
@@ -68,27 +58,19 @@ module _ (reading : Reading) where
   written buffer bounds e a = rw (eq-eqb (readingRefusal reading (length buffer) .number) 0 e, a)
 
 -- The two clauses of the contract.
-abbrev Meets : List ℕ → List ℕ → Refusal → List ℕ → Type 0
-Meets s buffer f after = (f ≡ analyseRefusal s (length buffer)) × (after ≡ analysed s buffer)
+abbrev Meets : Reading → List ℕ → Refusal → List ℕ → Type 0
+Meets reading buffer f after = (f ≡ readingRefusal reading (length buffer)) × (after ≡ readingBounds reading buffer)
 
-module _ (s : List ℕ) (reading : Reading) (read : reading ≡ readSheet s) (buffer : List ℕ) where
-  refusal-is : analyseRefusal s (length buffer) ≡ readingRefusal reading (length buffer)
-  unfolding analyseRefusal
-  refusal-is = ap (λ (r : Reading). readingRefusal r (length buffer)) (sym read)
-
-  bounds-are : analysed s buffer ≡ readingBounds reading buffer
-  unfolding analysed
-  bounds-are = ap (λ (r : Reading). readingBounds r buffer) (sym read)
-
+module _ (reading : Reading) (buffer : List ℕ) where
   -- a refusal f
-  refuses : (f : Refusal) → f ≡ readingRefusal reading (length buffer) → (f .number ≡ 0 → ⊥) → Meets s buffer f buffer
-  refuses f e n = (e ∙ sym refusal-is, sym (bounds-are ∙ unwritten reading buffer (λ z. n (ap (λ (r : Refusal). r .number) e ∙ z))))
+  refuses : (f : Refusal) → f ≡ readingRefusal reading (length buffer) → (f .number ≡ 0 → ⊥) → Meets reading buffer f buffer
+  refuses f e n = (e, sym (unwritten reading buffer (λ z. n (ap (λ (r : Refusal). r .number) e ∙ z))))
 
-  pub meets-unread : (reading .refusal .number ≡ 0 → ⊥) → Meets s buffer (reading .refusal) buffer
+  pub meets-unread : (reading .refusal .number ≡ 0 → ⊥) → Meets reading buffer (reading .refusal) buffer
   meets-unread n = refuses (reading .refusal) (sym (unread reading (length buffer) n)) n
 
   module _ (reads : reading .refusal .number ≡ 0) where
-    pub meets-no-room : length buffer < reading .set .count → (f : Refusal) → f ≡ refused ROOM 0 → Meets s buffer f buffer
+    pub meets-no-room : length buffer < reading .set .count → (f : Refusal) → f ≡ refused ROOM 0 → Meets reading buffer f buffer
     meets-no-room h f e =
         refuses f (e ∙ sym (roomless reading (length buffer) reads h)) (λ z. omega (arith, z, ap (λ (r : Refusal). r .number) e))
 
@@ -96,14 +78,18 @@ module _ (s : List ℕ) (reading : Reading) (read : reading ≡ readSheet s) (bu
       f-is : f ≡ readingRefusal reading (length buffer)
       f-is = answers .refusal-is ∙ sym (worked-out reading (length buffer) reads room)
 
-      pub meets-refused : (f .number ≡ 0 → ⊥) → Meets s buffer f buffer
+      pub meets-refused : (f .number ≡ 0 → ⊥) → Meets reading buffer f buffer
       meets-refused n = refuses f f-is n
 
-      pub meets-accepted : f .number ≡ 0 → (after : List ℕ) → after ≡ take (reading .set .count) bounds ++ drop (reading .set .count) buffer → Meets s buffer f after
-      meets-accepted z after e =
-          let w = reading-well-formed s reading read reads in
+      pub meets-accepted : WellRead reading → f .number ≡ 0 → (after : List ℕ) → after ≡ take (reading .set .count) bounds ++ drop (reading .set .count) buffer → Meets reading buffer f after
+      meets-accepted well z after e =
+          let w = well reads in
           let l : length (take (reading .set .count) bounds) ≡ reading .set .count = length-take-le (reading .set .count) bounds (omega (arith, answers .long, w .rows-most)) in
-          let b = written reading buffer (take (reading .set .count) bounds) (sym (ap (λ (r : Refusal). r .number) f-is) ∙ z) (answers .bounds-are z) in (
-            f-is ∙ sym refusal-is,
-            e ∙ sym (bounds-are ∙ b ∙ ap (λ (n : ℕ). take (reading .set .count) bounds ++ drop n buffer) l),
-          )
+          let b = written reading buffer (take (reading .set .count) bounds) (sym (ap (λ (r : Refusal). r .number) f-is) ∙ z) (answers .bounds-are z) in
+          (f-is, e ∙ sym (b ∙ ap (λ (n : ℕ). take (reading .set .count) bounds ++ drop n buffer) l))
+
+-- The analysis of a sheet is that of what is read.
+pub meets-read : (s buffer : List ℕ) (reading : Reading) (f : Refusal) (after : List ℕ) → reading ≡ readSheet s → Meets reading buffer f after
+    → (f ≡ analyseRefusal s (length buffer)) × (after ≡ analysed s buffer)
+unfolding analyseRefusal analysed
+meets-read s buffer reading f after e m = subst (λ (r : Reading). Meets r buffer f after) e m

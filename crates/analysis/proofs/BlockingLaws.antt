@@ -13,9 +13,9 @@ use Rattle.laws.specs.Choice.{pick}
 use Rattle.laws.specs.SumLaws.{max-at, max-under}
 use Rattle.sheet.specs.declared.Set.{Set}
 use Rattle.sheet.specs.Ranges.{rowIn, lengthOf, WellFormed}
+use Rattle.sheet.proofs.Ranks.{processors-rise}
 use Rattle.analysis.specs.Bounds.{isLower, only, largestOver, blocking}
 use Rattle.analysis.specs.Columns.{mostLength, own, Blocks}
-use Rattle.analysis.proofs.RowLaws.{sorted}
 
 both : (a b : Bool) → a ≡ true → b ≡ true → (a && b) ≡ true
 both a b p q = rw (p, q)
@@ -55,7 +55,8 @@ module _ (set : Set) where
     -- the row below it is on another processor, or blocks it with all that blocks that row
     pub blocking-other : (i : ℕ) → suc i < set .count → (rowIn set (suc i) .processor ≡ rowIn set i .processor → ⊥) → blocking set i ≡ 0
     blocking-other i h n =
-        omega (arith, blocking-under i 0 (λ j l g e. absurd (n (omega (arith, sorted set w i (suc i) (omega arith) h, sorted set w (suc i) j (omega (arith, g)) l, e)))))
+        let a = processors-rise set w i (suc i) (omega arith) h in
+        omega (arith, blocking-under i 0 (λ j l g e. absurd (n (omega (arith, a, processors-rise set w (suc i) j (omega (arith, g)) l, e)))))
 
     pub blocking-on : (i : ℕ) → suc i < set .count → rowIn set (suc i) .processor ≡ rowIn set i .processor → blocking set i ≡ max (blocking set (suc i)) (lengthOf (rowIn set (suc i)))
     blocking-on i h e =

@@ -1,16 +1,14 @@
 -- How far the contract reaches: two answers that meet it are equal, and so are two final buffers; and what the answer carries.
 use Prim.Native.Nat.{ℕ}
 use mathlib.Core.Path.{_≡_, refl, sym, _∙_}
-use mathlib.Core.Bool.{Bool, true, false}
 use mathlib.Core.List.{List}
 use mathlib.Core.Logic.{⊎-elim}
 use native.Mathlib.Omega.{arith}
 use lib.ListN.{length}
-use Rattle.laws.specs.Choice.{pick}
 use Rattle.sheet.specs.declared.Refusal.{Refusal}
-use Rattle.sheet.specs.Refusals.{refused, accepts, orElse, Carries}
+use Rattle.sheet.specs.Refusals.{orElse, Carries}
 use Rattle.sheet.specs.Reading.{readRefusal, readSheet}
-use Rattle.sheet.proofs.RefusalFields.{read-carries}
+use Rattle.sheet.proofs.RefusalFields.{whole, or-carries, read-carries}
 use Rattle.analysis.specs.Bounds.{Outcome, Accepted, BusyAt, LateAt, analyseSet}
 use Rattle.analysis.specs.Analysis.{refusalOf, roomRefusal, readingRefusal, analyseRefusal, analysed}
 
@@ -19,16 +17,6 @@ pub analyse-determined : (sheet before : List ℕ) (a b : Refusal) (after after�
     → (b ≡ analyseRefusal sheet (length before)) × (after′ ≡ analysed sheet before)
     → (a ≡ b) × (after ≡ after′)
 analyse-determined sheet before a b after after′ p q = (p .0 ∙ sym (q .0), p .1 ∙ sym (q .1))
-
-whole : (n : ℕ) → Carries (refused n 0)
-whole n = record { no-row = λ h. refl; no-instance = λ h. refl }
-
-picked : (t : Bool) (a b : Refusal) → Carries a → Carries b → Carries (pick t b a)
-picked true a b p q = q
-picked false a b p q = p
-
-or-carries : (a b : Refusal) → Carries a → Carries b → Carries (orElse a b)
-or-carries a b = picked (accepts a) a b
 
 of-rows : (o : Outcome) → Carries (refusalOf o)
 of-rows (Accepted bounds) = whole 0

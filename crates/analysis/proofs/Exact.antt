@@ -19,7 +19,7 @@ use Rattle.analysis.proofs.RowLaws.{equations-lawful, equations-same}
 use Rattle.analysis.proofs.RowsWorked.{worked-bound, worked-busy, worked-late, busy-ends, late-ends, worked-refused-busy, worked-refused-late}
 use Rattle.analysis.proofs.ExactRow.{bound-of, bound-is, late-of, late-is, busy-verdict, verdict-none-of}
 
-last-one : (l : List ℕ) (r : ℕ) → getD (l ++ (r ∷ [])) (length l) 0 ≡ r
+pub last-one : (l : List ℕ) (r : ℕ) → getD (l ++ (r ∷ [])) (length l) 0 ≡ r
 last-one [] r = refl
 last-one (x ∷ l) r = last-one l r
 

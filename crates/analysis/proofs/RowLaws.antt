@@ -1,10 +1,10 @@
 -- Laws of the sums over a set's rows: a row's equations are lawful, and ask only for bounds of rows before it.
-use Prim.Native.Nat.{ℕ, zero, suc, _*_, _≤_, _<_}
+use Prim.Native.Nat.{ℕ, suc, _*_, _≤_, _<_}
 use mathlib.Core.Path.{_≡_, refl, sym, ap, fun-ext}
 use mathlib.Core.Bool.{Bool, true, false}
 use native.Mathlib.Omega.{arith}
 use native.Mathlib.Nat.{mul-le-mul-right}
-use native.Mathlib.Decide.{decLe, ℕ-discrete}
+use native.Mathlib.Decide.{decLe}
 use borrow.Author.Tests.{ltb-true}
 use Rattle.laws.specs.Rounding.{up}
 use Rattle.laws.specs.RoundingLaws.{div-mono, up-mono, up-suc, up-le}
@@ -14,6 +14,7 @@ use Rattle.laws.specs.LeastLaws.{Mono, climb, climb-least}
 use Rattle.sheet.specs.declared.Row.{Row}
 use Rattle.sheet.specs.declared.Set.{Set}
 use Rattle.sheet.specs.Ranges.{rowIn, memoryOf, computationOf, lengthOf, WellFormed}
+use Rattle.sheet.proofs.Ranks.{processors-rise}
 use Rattle.analysis.specs.Equations.{limit, busyAt, busyLength}
 use Rattle.analysis.specs.Bounds.{isHigher, outranks, only, sumOver, asked, askedWith, taken, blocking, tokenTaken, equationsOf}
 use Rattle.analysis.proofs.Lawful.{Rising, Lawful, busy-mono}
@@ -77,21 +78,13 @@ module _ (set : Set) (R : ℕ → ℕ) (i : ℕ) where
         above-next = λ x. sum-over-same set (isHigher set i) _ _ (λ j h t. asked-next lengthOf (rowIn set j) x (w .row j h .period-some));
       }
 
--- Processors never fall from one row to the next.
 module _ (set : Set) (w : WellFormed set) where
-  pub sorted : (j i : ℕ) → j ≤ i → i < set .count → rowIn set j .processor ≤ rowIn set i .processor
-  sorted j zero h l = let e : j ≡ 0 = omega arith in rw e (omega arith)
-  sorted j (suc i) h l = go (sorted j i) (ℕ-discrete j (suc i))
-    where
-      go : (j ≤ i → i < set .count → rowIn set j .processor ≤ rowIn set i .processor) → Dec (j ≡ suc i) → rowIn set j .processor ≤ rowIn set (suc i) .processor
-      go r (yes e) = rw e (omega arith)
-      go r (no n) = omega (arith, r (omega arith) (omega arith), w .row (suc i) l .after)
-
+  -- A row that outranks another stands before it.
   pub outranks-before : (i j : ℕ) → i < set .count → j < set .count → outranks set i j ≡ true → j < i
   outranks-before i j l h t = go (decLe i j)
     where
       go : Dec (i ≤ j) → j < i
-      go (yes q) = absurd (omega (arith, sorted i j q h, ltb-true (rowIn set j .processor) (rowIn set i .processor) t))
+      go (yes q) = absurd (omega (arith, processors-rise set w i j q h, ltb-true (rowIn set j .processor) (rowIn set i .processor) t))
       go (no q) = omega arith
 
   -- A row's equations ask only for the bounds of rows before it.

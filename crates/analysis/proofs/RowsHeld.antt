@@ -19,9 +19,10 @@ use Rattle.laws.specs.SumPartLaws.{sum-rest, sum-middle, sum-nothing}
 use Rattle.sheet.specs.declared.Set.{Set}
 use Rattle.sheet.specs.declared.Row.{Row}
 use Rattle.sheet.specs.Ranges.{rowIn, memoryOf, computationOf, lengthOf, before, InRange, WellFormed}
+use Rattle.sheet.proofs.Ranks.{processors-rise}
 use Rattle.analysis.specs.Bounds.{isHigher, outranks, only, sumOver, asked, askedWith, taken, blocking, tokenTaken, equationsOf, boundIn, Accepted, worked}
 use Rattle.analysis.specs.Columns.{own, places, columnTerm, columnSum, beforeNext, columnEquations, InPlace, Columns, Held}
-use Rattle.analysis.proofs.RowLaws.{sorted, asked-next, asked-none, sum-over-same, token-same}
+use Rattle.analysis.proofs.RowLaws.{asked-next, asked-none, sum-over-same, token-same}
 use Rattle.analysis.proofs.TwoStores.{two-long, two-other, two-first, two-second}
 
 abbrev takenAt : Set → List ℕ → ℕ → ℕ → ℕ
@@ -84,8 +85,8 @@ module _ (set : Set) (wf : WellFormed set) (w t lead bounds : List ℕ) (p ranke
       go zero q = absurd (omega (arith, q, l))
       go (suc k) q =
           let b : p ≡ rowIn set k .processor = e ∙ ap (before (rowIn set)) q in
-          let s = sorted set wf k i (omega (arith, q)) below in
-          let r = sorted set wf j k (omega (arith, q, l)) (omega (arith, q, below)) in
+          let s = processors-rise set wf k i (omega (arith, q)) below in
+          let r = processors-rise set wf j k (omega (arith, q, l)) (omega (arith, q, below)) in
           omega (arith, n, s, r, b)
 
   pub rows-turn : p ≡ before (rowIn set) i
@@ -180,7 +181,7 @@ module _ (set : Set) (wf : WellFormed set) (w t lead bounds : List ℕ) (ranked 
       ∙ sum-same _ _ first (λ j h. let s : outranks set i j ≡ true = lt-ltb _ _ (rows .outrank j h) in rw s))
     where
       none : (j : ℕ) → first ≤ j → j < set .count → Dec (i ≤ j) → only (outranks set i j) (takenAt set bounds x j) ≡ 0
-      none j h l (yes q) = let s : outranks set i j ≡ false = le-ltb _ _ (sorted set wf i j q l) in rw s
+      none j h l (yes q) = let s : outranks set i j ≡ false = le-ltb _ _ (processors-rise set wf i j q l) in rw s
       none j h l (no q) =
           let e : rowIn set j .processor ≡ rowIn set i .processor = rows .same j h (omega arith) in
           let s : outranks set i j ≡ false = le-ltb (rowIn set j .processor) (rowIn set i .processor) (omega (arith, e)) in

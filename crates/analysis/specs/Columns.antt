@@ -11,7 +11,8 @@ use Rattle.laws.specs.Sums.{sumTo}
 use Rattle.sheet.specs.declared.Row.{Row}
 use Rattle.sheet.specs.declared.Set.{Set}
 use Rattle.sheet.specs.declared.Refusal.{Refusal}
-use Rattle.sheet.specs.Ranges.{mostTicks, memoryOf, computationOf, lengthOf}
+use Rattle.sheet.specs.declared.Reading.{Reading}
+use Rattle.sheet.specs.Ranges.{mostTicks, memoryOf, computationOf, lengthOf, WellFormed}
 use Rattle.analysis.specs.Bounds.{Accepted, blocking, analyseSet}
 use Rattle.analysis.specs.Analysis.{refusalOf}
 use Rattle.analysis.specs.Equations.{Equations, limit, numberOf, busyLength, instancesIn, startAt, start}
@@ -137,3 +138,7 @@ pub record Answers (set : Set) (refusal : Refusal) (bounds : List ℕ) : Type 0 
   pub refusal-is : refusal ≡ refusalOf (analyseSet set)
   pub bounds-are : refusal .number ≡ 0 → analyseSet set ≡ Accepted (take (set .count) bounds)
   pub long : length bounds ≡ own
+
+-- What the analysis needs of a reading: where it is accepted, its set is well-formed.
+abbrev pub WellRead : Reading → Type 0
+WellRead reading = reading .refusal .number ≡ 0 → WellFormed (reading .set)

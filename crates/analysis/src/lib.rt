@@ -10,9 +10,9 @@ ghost use Rattle.laws.specs.declared.Found.the-variants.{At};
 ghost use Rattle.sheet.specs.Ranges.{lengthOf, WellFormed};
 ghost use Rattle.analysis.specs.Equations.{limit, busyAt, busyLength, instancesIn, memoryEnd, judged, verdictOf};
 ghost use Rattle.analysis.specs.Bounds.{LateAt};
-ghost use Rattle.analysis.specs.Analysis.{refusalOf, analyseRefusal, analysed};
+ghost use Rattle.analysis.specs.Analysis.{refusalOf, readingRefusal, readingBounds, analyseRefusal, analysed};
 ghost use Rattle.analysis.specs.Columns.{own, columnSum, climbAt, columnEquations, mostLength, mostTerm, mostSum};
-ghost use Rattle.analysis.specs.Columns.{InPlace, Placed, Columns, Fit, solution, Warm, Turn, Blocks, Holding, Held, Answers};
+ghost use Rattle.analysis.specs.Columns.{InPlace, Placed, Columns, Fit, solution, Warm, Turn, Blocks, Holding, Held, Answers, WellRead};
 
 // Places 0 to 31 of the columns are for rows of higher-ranked processors, those from here on for the higher rows of the
 // own processor.
@@ -416,12 +416,12 @@ fn put(bounds: &[u32; 32], buffer: &mut [u32], n: usize)
     }
 }
 
-// Reading, then 12, then the rows in order, each 10 before 11; a refusal writes nothing.
-pub fn analyse(sheet: &[u8], bounds: &mut [u32]) -> sheet::Refusal
-    ensures { λ r. ⌜ r ≡ analyseRefusal (now (sheet .entry)) (length (now (bounds .entry))) ⌝ }
-    ensures { λ r. ⌜ now (bounds .exit) ≡ analysed (now (sheet .entry)) (now (bounds .entry)) ⌝ }
+// What was read, then 12, then the rows in order, each 10 before 11; a refusal writes nothing.
+fn analyse_reading(reading: sheet::Reading, bounds: &mut [u32]) -> sheet::Refusal
+    requires { ⌜ WellRead reading ⌝ }
+    ensures { λ r. ⌜ r ≡ readingRefusal reading (length (now (bounds .entry))) ⌝ }
+    ensures { λ r. ⌜ now (bounds .exit) ≡ readingBounds reading (now (bounds .entry)) ⌝ }
 {
-    let reading = sheet::read(sheet);
     let refusal = reading.refusal;
     if refusal.number != sheet::refusals::ACCEPTED {
         return refusal;
@@ -438,4 +438,13 @@ pub fn analyse(sheet: &[u8], bounds: &mut [u32]) -> sheet::Refusal
         put(&found, bounds, n);
     }
     verdict
+}
+
+// Reading, then the analysis of what was read.
+pub fn analyse(sheet: &[u8], bounds: &mut [u32]) -> sheet::Refusal
+    ensures { λ r. ⌜ r ≡ analyseRefusal (now (sheet .entry)) (length (now (bounds .entry))) ⌝ }
+    ensures { λ r. ⌜ now (bounds .exit) ≡ analysed (now (sheet .entry)) (now (bounds .entry)) ⌝ }
+{
+    let reading = sheet::read(sheet);
+    analyse_reading(reading, bounds)
 }

@@ -18,7 +18,7 @@ workDone sys s j = done (work sys j) (s .released j) (s .workLeft j)
 abbrev pub memoryDone : System → Snapshot → ℕ → ℕ
 memoryDone sys s j = done (sys .memory j) (s .released j) (s .memoryLeft j)
 
-done-and-left : (each releases left : ℕ) → left ≤ each → (1 ≤ left → 1 ≤ releases) → done each releases left + left ≡ each * releases
+pub done-and-left : (each releases left : ℕ) → left ≤ each → (1 ≤ left → 1 ≤ releases) → done each releases left + left ≡ each * releases
 unfolding done
 done-and-left each releases zero h g = omega arith
 done-and-left each releases (suc left) h g = omega (arith, mul-le-mul-left each (g (omega arith)))

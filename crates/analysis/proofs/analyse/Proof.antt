@@ -1,4 +1,6 @@
-use Rattle.analysis.proofs.AnalysisCases.{reading-well-formed, meets-unread, meets-no-room, meets-refused, meets-accepted}
+use mathlib.Core.Path.{subst, sym}
+use Rattle.analysis.specs.Columns.{WellRead}
+use Rattle.analysis.proofs.AnalysisCases.{sheet-well-read, meets-read}
 use borrow.Author.Needs.{needs}
 use Rattle.analysis.proofs.analyse.Statement.{statement}
 use Rattle.analysis.proofs.analyse.Tie as tie
@@ -6,42 +8,14 @@ use Rattle.analysis.proofs.analyse.Tie as tie
 read-requires : tie.Need-read-requires
 read-requires c κs = search needs
 
-returns : tie.Need-returns
-returns c = meets-unread _ _ (c .before .before .before .read .ensures) _ (c .if1 .taken)
-
-refuse-requires : tie.Need-refuse-requires
-refuse-requires c κs = search needs
-
-returns-2 : tie.Need-returns-2
-returns-2 c = meets-no-room _ _ (c .before .before .before .before .before .before .read .ensures) _ (c .before .before .before .if1 .left) (c .before .if2 .taken) _ (c .refuse .ensures)
-
-work-requires : tie.Need-work-requires
-work-requires c κs = reading-well-formed _ _ (c .before .before .before .before .before .read .ensures) (c .before .before .if1 .left)
-
-put-requires : tie.Need-put-requires
-put-requires c κs =
-    let w = reading-well-formed _ _ (c .before .before .before .before .before .before .before .before .before .before .before .before .read .ensures) (c .before .before .before .before .before .before .before .before .before .if1 .left) in
-    (w .rows-most, c .before .before .before .before .before .before .before .if2 .left, c .before .before .before .before .before .before .work .ensures .long)
+analyse-reading-requires : tie.Need-analyse-reading-requires
+analyse-reading-requires c κs = subst WellRead (sym (c .before .read .ensures)) (sheet-well-read _)
 
 same-length : tie.Need-same-length
 same-length c = search needs
 
-returns-3 : tie.Need-returns-3
-returns-3 c = meets-accepted _ _ (c .before .before .before .before .before .before .before .before .before .before .before .before .before .before .before .read .ensures) _ (c .before .before .before .before .before .before .before .before .before .before .before .before .if1 .left) (c .before .before .before .before .before .before .before .before .before .before .if2 .left) _ _ (c .before .before .before .before .before .before .before .before .before .work .ensures) (c .before .before .before .before .before .if3 .taken) _ (c .before .before .put .ensures)
-
-returns-4 : tie.Need-returns-4
-returns-4 c = meets-refused _ _ (c .before .before .before .before .before .before .before .before .before .before .read .ensures) _ (c .before .before .before .before .before .before .before .if1 .left) (c .before .before .before .before .before .if2 .left) _ _ (c .before .before .before .before .work .ensures) (c .if3 .left)
+returns : tie.Need-returns
+returns c = meets-read _ _ _ _ _ (c .before .before .before .before .read .ensures) (c .before .before .analyse-reading .ensures)
 
 pub analyse-spec : {M : Type 1} → statement M
-analyse-spec =
-    tie.close
-    (tie.spec
-    read-requires
-    returns
-    refuse-requires
-    returns-2
-    work-requires
-    put-requires
-    same-length
-    returns-3
-    returns-4)
+analyse-spec = tie.close (tie.spec read-requires analyse-reading-requires same-length returns)
