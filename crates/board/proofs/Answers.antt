@@ -1,27 +1,25 @@
--- The answers of start, release and tick, case by case.
+-- The answers of start and release, case by case.
 use Prim.Native.Nat.{ℕ, _+_, _-_, _≤_, _<_}
 use mathlib.Core.Path.{_≡_, refl, sym, ap, _∙_}
 use mathlib.Core.Bool.{Bool, true, false, _&&_}
 use mathlib.Core.List.{List, []}
-use borrow.Author.Tests.{lt-ltb, le-ltb, lt-leb, le-leb, ne-eqb, eqb-false, not-false}
+use borrow.Author.Tests.{lt-ltb, le-ltb, lt-leb, le-leb, eq-eqb, ne-eqb}
 use native.Mathlib.Omega.{arith}
 use native.Mathlib.Decide.{ℕ-discrete, decLt}
 use lib.ListN.{length, getD, set, length-set, replicate, length-replicate, getD-replicate}
 use lib.Seq.{ext-getD, getD-set-same, getD-set-other}
 use lib.Dec.{eqb, ltb}
 use Rattle.laws.specs.Choice.{pick, firstOf}
-use Rattle.laws.specs.ChoiceLaws.{pick-false, passed}
 use Rattle.laws.specs.TabulateLaws.{set-tab}
 use Rattle.sheet.specs.Refusals.{STATE, ROW, CLOCK, refused, accepted, accepts}
 use Rattle.sheet.specs.Ranges.{mostRows, zeroSet}
-use Rattle.sheet.specs.Reading.{readRefusal, setOf, readSheet}
+use Rattle.sheet.specs.declared.Reading.{Reading}
 use Rattle.board.specs.declared.Job.{Job}
 use Rattle.board.specs.declared.State.{State}
 use Rattle.board.specs.declared.Started.{Started}
-use Rattle.board.specs.States.{mostClock, noJob, rowAt, jobAt, startSet, zeroState}
+use Rattle.board.specs.States.{noJob, rowAt, jobAt, startSet, zeroState}
 use Rattle.board.specs.Shape.{shapeOk}
-use Rattle.board.specs.Calls.{startReading, startOf, isEarly, releaseTable, releaseNumber, waitingFrom, released, releaseOf, tickNumber, ticked, unticked, tickOf}
-use Rattle.board.proofs.ShapeFacts.{shaped}
+use Rattle.board.specs.Calls.{startReading, isEarly, releaseTable, releaseNumber, waitingFrom, released, releaseOf}
 
 -- A job stored where it stands already.
 pub stored-again : (job : Job) (i : ℕ) → i < mostRows → set (replicate mostRows job) i job ≡ replicate mostRows job
@@ -34,17 +32,19 @@ stored-again job i l = ext-getD noJob _ _ (length-set (replicate mostRows job) i
     at k (yes e) = rw (e, getD-set-same (replicate mostRows job) i job noJob (omega (arith, long))) (sym (getD-replicate mostRows i job noJob l))
     at k (no n) = getD-set-other (replicate mostRows job) i k job noJob n
 
--- Start: a fresh start over what was read, which is the all-zero set where the sheet is refused.
-pub start-fresh : (sheet : List ℕ) → record { state = startSet (readSheet sheet .set); refusal = readSheet sheet .refusal } ≡ startOf sheet
-unfolding readSheet startOf startReading startSet zeroState
-start-fresh sheet = go (accepts (readRefusal sheet))
-  where
-    go : (b : Bool)
-        → _≡_ {A = Started}
-        (record { state = startSet (pick b (setOf sheet) zeroSet); refusal = readRefusal sheet })
-        (record { state = pick b (startSet (pick b (setOf sheet) zeroSet)) zeroState; refusal = readRefusal sheet })
-    go true = refl
-    go false = refl
+-- Start: a fresh start over the all-zero set is the all-zero state.
+pub start-zero : startSet zeroSet ≡ zeroState
+unfolding startSet zeroState
+start-zero = refl
+
+-- A start from what was read, or from what could not be.
+pub start-read : (r : Reading) → r .refusal .number ≡ 0 → record { state = startSet (r .set); refusal = r .refusal } ≡ startReading r
+unfolding startReading
+start-read r e = rw (eq-eqb (r .refusal .number) 0 e)
+
+pub start-unread : (r : Reading) → (r .refusal .number ≡ 0 → ⊥) → record { state = zeroState; refusal = r .refusal } ≡ startReading r
+unfolding startReading
+start-unread r n = rw (ne-eqb (r .refusal .number) 0 n)
 
 -- Less than T ticks ago, by the difference that the code takes.
 pub early-is : (clock period : ℕ) (job : Job) → job .last ≤ clock → isEarly clock period job ≡ (job .ever && ltb (clock - job .last) period)
@@ -88,23 +88,3 @@ module _ (s : State) (i : ℕ) where
   unfolding released
   release-stored n l =
       ap (λ (x : List Job). record { set = s .set; clock = s .clock; places = s .places; jobs = x }) (set-tab (s .jobs) mostRows i (waitingFrom (s .clock) (jobAt s i)) noJob n l)
-
--- Tick.
-module _ (s : State) where
-  told : (n : ℕ) → tickNumber s ≡ n → tickOf s ≡ pick (eqb n 0) (ticked s) (unticked s n)
-  unfolding tickOf
-  told n e = ap (λ (x : ℕ). pick (eqb x 0) (ticked s) (unticked s x)) e
-
-  pub tick-goes : tickNumber s ≡ 0 → tickOf s ≡ ticked s
-  tick-goes e = told 0 e
-
-  pub tick-stays : (n : ℕ) → n ≡ tickNumber s → (n ≡ 0 → ⊥) → tickOf s ≡ unticked s n
-  tick-stays n e d = told n (sym e) ∙ pick-false _ _ _ (ne-eqb n 0 d)
-
-  pub tick-accepted : tickNumber s ≡ 0 → (shapeOk s ≡ true) × (s .clock < mostClock)
-  unfolding tickNumber
-  tick-accepted e =
-      let a = passed _ STATE 0 _ e (λ d. absurd (omega (arith, d))) in
-      let b = passed _ CLOCK 0 [] (a .1) (λ d. absurd (omega (arith, d))) in
-      let h = not-false _ (a .0) in
-      (h, omega (arith, shaped s h .clock, eqb-false (s .clock) mostClock (b .0)))

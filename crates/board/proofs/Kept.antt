@@ -13,13 +13,14 @@ use Rattle.sheet.specs.declared.Set.{Set}
 use Rattle.sheet.specs.declared.Refusal.{Refusal}
 use Rattle.sheet.proofs.RoundTrip.{well-formed-taken}
 use Rattle.board.specs.declared.State.{State}
+use Rattle.board.specs.declared.Ticked.{Ticked}
 use Rattle.board.specs.declared.Hand.{Hand}
 use Rattle.board.specs.declared.Standing.the-variants.{Absent}
 use Rattle.board.specs.States.{mostClock, rowAt, jobAt, standingAt, isAbsent, holds, inHand, startSet}
-use Rattle.board.specs.Rules.{taken, ran}
+use Rattle.board.specs.Rules.{taken, hasToken, ran}
 use Rattle.board.specs.Calls.{isEarly, releaseNumber, waitingFrom, released, releaseOf, tickNumber, ticked, unticked, tickOf}
 use Rattle.board.proofs.ShapeFacts.{Stands, Kept, Shaped, shaped, set-well-formed, absent-facts}
-use Rattle.board.proofs.Pointwise.{taken-clock, released-job, released-other, start-job, start-hand, start-set, start-clock}
+use Rattle.board.proofs.Pointwise.{taken-clock, taken-set, ran-set, released-job, released-other, released-set, start-job, start-hand, start-set, start-clock}
 use Rattle.board.proofs.Taking.{take-keeps}
 use Rattle.board.proofs.Running.{run-keeps}
 
@@ -37,7 +38,7 @@ may-tick s h =
     record { shape = f; early = omega (arith, f .clock, eqb-false (s .clock) mostClock (p2 .0)) }
 
 pub tick-keeps : (s : State) → MayTick s → Shaped (ran (taken s))
-tick-keeps s m = run-keeps (taken s) (take-keeps s (m .shape)) (rw (taken-clock s) (m .early))
+tick-keeps s m = run-keeps (hasToken (taken s)) (taken s) (take-keeps s (m .shape)) (rw (taken-clock s) (m .early))
 
 -- What an accepted release says of the state.
 pub record MayRelease (s : State) (i : ℕ) : Type 0 where
@@ -160,6 +161,21 @@ tick-shape s f = go (ℕ-discrete (tickNumber s) 0)
     go : Dec (tickNumber s ≡ 0) → Shaped (tickOf s .state)
     go (yes h) = rw (tick-accepted s h, tick-state s) (tick-keeps s (may-tick s h))
     go (no h) = rw (tick-refused s h) f
+
+-- No call changes the set.
+pub release-set : (s : State) (i : ℕ) → releaseOf s i .state .set ≡ s .set
+release-set s i = go (ℕ-discrete (releaseNumber s i) 0)
+  where
+    go : Dec (releaseNumber s i ≡ 0) → releaseOf s i .state .set ≡ s .set
+    go (yes h) = ap (λ (x : State). x .set) (release-accepted s i h) ∙ released-set s i
+    go (no h) = ap (λ (x : State). x .set) (release-refused s i h)
+
+pub tick-set : (s : State) → tickOf s .state .set ≡ s .set
+tick-set s = go (ℕ-discrete (tickNumber s) 0)
+  where
+    go : Dec (tickNumber s ≡ 0) → tickOf s .state .set ≡ s .set
+    go (yes h) = ap (λ (x : Ticked). x .state .set) (tick-accepted s h) ∙ ap (λ (x : State). x .set) (tick-state s) ∙ ran-set (hasToken (taken s)) (taken s) ∙ taken-set s
+    go (no h) = ap (λ (x : Ticked). x .state .set) (tick-refused s h)
 
 -- What a release that is refused as LIVE says of the state.
 pub record FoundLive (s : State) (i : ℕ) : Type 0 where

@@ -4,6 +4,7 @@ pub mod Pointwise
 pub mod Taking
 pub mod Running
 pub mod Kept
+pub mod Jobs
 pub mod Working
 pub mod Determined
 pub mod Standings
@@ -11,5 +12,6 @@ pub mod Zeros
 pub mod Checking
 pub mod Rows
 pub mod Gathering
+pub mod Granting
 pub mod Turning
 pub mod Answers

@@ -1,5 +1,6 @@
 -- The states that the rules make, read at one row or one processor.
 use mathlib.Core.Path.{_≡_, refl, ap, _∙_}
+use mathlib.Core.Bool.{Bool}
 use Prim.Native.Nat.{ℕ, _+_, _<_}
 use lib.ListN.{getD-replicate}
 use borrow.Author.Tests.{eq-eqb, ne-eqb}
@@ -12,7 +13,7 @@ use Rattle.board.specs.declared.State.{State}
 use Rattle.board.specs.declared.Hand.{Hand}
 use Rattle.board.specs.declared.Hand.the-variants.{Free}
 use Rattle.board.specs.States.{noJob, freePlace, jobAt, handAt, startSet}
-use Rattle.board.specs.Rules.{stateOf, handTaken, jobTaken, taken, frees, jobRun, ran}
+use Rattle.board.specs.Rules.{stateOf, handTaken, jobTaken, taken, freesBy, jobRunBy, ranBy}
 use Rattle.board.specs.Calls.{waitingFrom, released}
 
 job-of : (s : State) (clock : ℕ) (hand : ℕ → Hand) (job : ℕ → Job) (i : ℕ) → i < mostRows → jobAt (stateOf s clock hand job) i ≡ job i
@@ -38,22 +39,22 @@ pub taken-clock : (s : State) → taken s .clock ≡ s .clock
 unfolding taken
 taken-clock s = refl
 
--- Rules 2 to 5.
-pub ran-job : (s : State) (i : ℕ) → i < mostRows → jobAt (ran s) i ≡ jobRun s i
-unfolding ran
-ran-job s = job-of s (s .clock + 1) (λ p. frees s (handAt s p)) (jobRun s)
+-- Rules 3 to 5, whichever rows have the token.
+pub ran-job : (has : ℕ → Bool) (s : State) (i : ℕ) → i < mostRows → jobAt (ranBy has s) i ≡ jobRunBy has s i
+unfolding ranBy
+ran-job has s = job-of s (s .clock + 1) (λ p. freesBy has s (handAt s p)) (jobRunBy has s)
 
-pub ran-hand : (s : State) (p : ℕ) → p < mostProcessors → handAt (ran s) p ≡ frees s (handAt s p)
-unfolding ran
-ran-hand s = hand-of s (s .clock + 1) (λ p. frees s (handAt s p)) (jobRun s)
+pub ran-hand : (has : ℕ → Bool) (s : State) (p : ℕ) → p < mostProcessors → handAt (ranBy has s) p ≡ freesBy has s (handAt s p)
+unfolding ranBy
+ran-hand has s = hand-of s (s .clock + 1) (λ p. freesBy has s (handAt s p)) (jobRunBy has s)
 
-pub ran-set : (s : State) → ran s .set ≡ s .set
-unfolding ran
-ran-set s = refl
+pub ran-set : (has : ℕ → Bool) (s : State) → ranBy has s .set ≡ s .set
+unfolding ranBy
+ran-set has s = refl
 
-pub ran-clock : (s : State) → ran s .clock ≡ s .clock + 1
-unfolding ran
-ran-clock s = refl
+pub ran-clock : (has : ℕ → Bool) (s : State) → ranBy has s .clock ≡ s .clock + 1
+unfolding ranBy
+ran-clock has s = refl
 
 -- A release.
 pub released-job : (s : State) (i : ℕ) → i < mostRows → jobAt (released s i) i ≡ waitingFrom (s .clock) (jobAt s i)

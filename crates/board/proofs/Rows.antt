@@ -1,9 +1,8 @@
 -- Rows of a state of the shape: where they stand, and that a row that is not in hand stays as it is.
-use Prim.Native.Nat.{ℕ, zero, suc, _+_, _-_, _≤_, _<_}
+use Prim.Native.Nat.{ℕ, _≤_, _<_}
 use mathlib.Core.Path.{_≡_, refl, sym, ap, subst}
 use mathlib.Core.Bool.{Bool, false}
 use native.Mathlib.Omega.{arith}
-use native.Mathlib.Nat.{add-zero, add-suc}
 use native.Mathlib.Decide.{decLt}
 use borrow.Author.Tests.{ne-eqb}
 use Rattle.laws.specs.Choice.{pick}
@@ -17,7 +16,7 @@ use Rattle.board.specs.declared.Hand.the-variants.{Free, Holds}
 use Rattle.board.specs.declared.Standing.{Standing}
 use Rattle.board.specs.declared.Standing.the-variants.{Absent, Waiting, Memory, Computation}
 use Rattle.board.specs.States.{rowAt, jobAt, handAt, processorAt, standingAt, holds, inHand}
-use Rattle.board.specs.Rules.{standAs, hasToken, steps, finishes, finished, completes, jobRun}
+use Rattle.board.specs.Rules.{standAs, steps, finishes, finished, completesBy, jobRunBy}
 use Rattle.board.proofs.ShapeFacts.{Stands, OwnHand, Shaped, set-well-formed}
 
 -- What rules 3 and 4 make of a job at a standing.
@@ -31,9 +30,6 @@ still t row token job (Memory left) f = true-not-false false (f .0) refl
 still t row token job (Computation left) f = true-not-false false (f .0) refl
 
 module _ (s : State) (k : Shaped s) where
-  pub below-most : (i : ℕ) → i < s .set .count → i < mostRows
-  below-most i l = omega (arith, set-well-formed s k .rows-most)
-
   -- every row stands on a processor of the board, one past n on processor 0
   pub on-board : (i : ℕ) → i < mostRows → processorAt s i < mostProcessors
   on-board i m = go (decLt i (s .set .count))
@@ -42,23 +38,10 @@ module _ (s : State) (k : Shaped s) where
       go (yes l) = let w = set-well-formed s k in omega (arith, w .row i l .below, w .processors-most)
       go (no l) = let e = ap (λ (r : Row). r .processor) (k .past i (omega arith) m .0) in omega arith
 
-  -- processors never fall from one row to a later one
-  rises : (i d : ℕ) → i + d < s .set .count → processorAt s i ≤ processorAt s (i + d)
-  rises i zero l = rw add-zero (omega arith)
-  rises i (suc d) l =
-      let a = set-well-formed s k .row (suc (i + d)) (omega (arith, add-suc i d)) .after in
-      let b = rises i d (omega (arith, add-suc i d)) in
-      rw add-suc (omega arith)
-
-  pub rising : (i j : ℕ) → i ≤ j → j < s .set .count → processorAt s i ≤ processorAt s j
-  rising i j h l =
-      let e : i + (j - i) ≡ j = omega arith in
-      subst (λ (x : ℕ). processorAt s i ≤ processorAt s x) e (rises i (j - i) (omega arith))
-
-  -- a row that is not in hand stays as it is in rules 2 to 5, and does not complete
-  pub not-in-hand : (i : ℕ) → i < mostRows → inHand s i ≡ false → (jobRun s i ≡ jobAt s i) × (completes s i ≡ false)
-  unfolding jobRun completes
-  not-in-hand i m e = still (s .clock) (rowAt s i) (hasToken s i) (jobAt s i) (standingAt s i) (go (decLt i (s .set .count)))
+  -- a row that is not in hand stays as it is in rules 3 to 5, and does not complete
+  pub not-in-hand : (has : ℕ → Bool) (i : ℕ) → i < mostRows → inHand s i ≡ false → (jobRunBy has s i ≡ jobAt s i) × (completesBy has s i ≡ false)
+  unfolding jobRunBy completesBy
+  not-in-hand has i m e = still (s .clock) (rowAt s i) (has i) (jobAt s i) (standingAt s i) (go (decLt i (s .set .count)))
     where
       go : Dec (i < s .set .count) → Stands (rowAt s i) false (standingAt s i)
       go (yes l) = subst (λ (b : Bool). Stands (rowAt s i) b (standingAt s i)) e (k .row i l .standing)

@@ -19,7 +19,7 @@ use Rattle.board.specs.declared.Hand.the-variants.{Free, Holds}
 use Rattle.board.specs.declared.Standing.{Standing}
 use Rattle.board.specs.declared.Standing.the-variants.{Absent, Waiting, Memory, Computation}
 use Rattle.board.specs.States.{mostClock, noJob, rowAt, jobAt, handAt, processorAt, standingAt, isAbsent, isMemory, holds, inHand}
-use Rattle.board.specs.Rules.{standAs, inMemory, tokenAt, hasToken, computes, steps, finishes, finished, completes, jobRun, frees, ran}
+use Rattle.board.specs.Rules.{standAs, inMemory, tokenAt, hasToken, computes, steps, finishes, finished, completesBy, jobRunBy, freesBy, ranBy}
 use Rattle.board.specs.Work.{workLeft, memoryLeft, liveJobs}
 use Rattle.board.proofs.ShapeFacts.{Stands, Kept, OwnHand, Shaped, set-well-formed, absent-facts}
 use Rattle.board.proofs.Pointwise.{ran-job, ran-hand}
@@ -165,13 +165,14 @@ kept-on clock row token held job k = go (step-how row token held (job .standing)
     go (stalls r) = same (r .same) (r .goes-on)
     go (works w) = worked w (isAbsent (steps row token (job .standing))) refl
 
-module _ (s : State) (f : Shaped s) where
+-- Rules 3 to 5, whichever rows have the token.
+module _ (has : ℕ → Bool) (s : State) (f : Shaped s) where
   w : WellFormed (s .set)
   w = set-well-formed s f
 
   -- A row is in hand after the tick if it was and has not completed.
-  held-after : (i : ℕ) → holds (frees s (handAt s (processorAt s i))) i ≡ pick (completes s i) false (inHand s i)
-  unfolding frees
+  held-after : (i : ℕ) → holds (freesBy has s (handAt s (processorAt s i))) i ≡ pick (completesBy has s i) false (inHand s i)
+  unfolding freesBy
   held-after i = go (handAt s (processorAt s i))
     where
       none : (b : Bool) → false ≡ pick b false false
@@ -188,48 +189,49 @@ module _ (s : State) (f : Shaped s) where
       other k e false true = e
       other k e false false = refl
 
-      go : (h : Hand) → holds (frees s h) i ≡ pick (completes s i) false (holds h i)
-      go Free = none (completes s i)
+      go : (h : Hand) → holds (freesBy has s h) i ≡ pick (completesBy has s i) false (holds h i)
+      go Free = none (completesBy has s i)
       go (Holds k) = at (ℕ-discrete k i)
         where
-          at : Dec (k ≡ i) → holds (pick (completes s k) Free (Holds k)) i ≡ pick (completes s i) false (eqb k i)
-          at (yes d) = rw d (mine (completes s i))
-          at (no d) = other k (ne-eqb k i d) (completes s k) (completes s i)
+          at : Dec (k ≡ i) → holds (pick (completesBy has s k) Free (Holds k)) i ≡ pick (completesBy has s i) false (eqb k i)
+          at (yes d) = rw d (mine (completesBy has s i))
+          at (no d) = other k (ne-eqb k i d) (completesBy has s k) (completesBy has s i)
 
-  kept-ran : (i : ℕ) → i < s .set .count → Kept (s .clock + 1) (rowAt s i) (holds (frees s (handAt s (processorAt s i))) i) (jobRun s i)
-  unfolding jobRun completes
-  kept-ran i l = rw (held-after i) (kept-on (s .clock) (rowAt s i) (hasToken s i) (inHand s i) (jobAt s i) (f .row i l))
+  kept-ran : (i : ℕ) → i < s .set .count → Kept (s .clock + 1) (rowAt s i) (holds (freesBy has s (handAt s (processorAt s i))) i) (jobRunBy has s i)
+  unfolding jobRunBy completesBy
+  kept-ran i l = rw (held-after i) (kept-on (s .clock) (rowAt s i) (has i) (inHand s i) (jobAt s i) (f .row i l))
 
-  hand-ran : (p : ℕ) → p < mostProcessors → OwnHand (s .set) p (frees s (handAt s p))
-  unfolding frees
+  hand-ran : (p : ℕ) → p < mostProcessors → OwnHand (s .set) p (freesBy has s (handAt s p))
+  unfolding freesBy
   hand-ran p l = go (handAt s p) (f .hand p l)
     where
       at : (i : ℕ) → OwnHand (s .set) p (Holds i) → (b : Bool) → OwnHand (s .set) p (pick b Free (Holds i))
       at i o true = tt
       at i o false = o
 
-      go : (h : Hand) → OwnHand (s .set) p h → OwnHand (s .set) p (frees s h)
+      go : (h : Hand) → OwnHand (s .set) p h → OwnHand (s .set) p (freesBy has s h)
       go Free o = tt
-      go (Holds i) o = at i o (completes s i)
+      go (Holds i) o = at i o (completesBy has s i)
 
-  past-ran : (i : ℕ) → s .set .count ≤ i → i < mostRows → jobRun s i ≡ noJob
-  unfolding jobRun completes
-  past-ran i l g = ap (λ (j : Job). goneOn (s .clock) (rowAt s i) (hasToken s i) (finishes (rowAt s i) (hasToken s i) (j .standing)) j) (f .past i l g .1)
+  past-ran : (i : ℕ) → s .set .count ≤ i → i < mostRows → jobRunBy has s i ≡ noJob
+  unfolding jobRunBy completesBy
+  past-ran i l g = ap (λ (j : Job). goneOn (s .clock) (rowAt s i) (has i) (finishes (rowAt s i) (has i) (j .standing)) j) (f .past i l g .1)
 
   -- Rules 2 to 5 keep the shape.
-  pub run-keeps : s .clock < mostClock → Shaped (ran s)
-  unfolding ran
+  pub run-keeps : s .clock < mostClock → Shaped (ranBy has s)
+  unfolding ranBy
   run-keeps c =
       record {
         set = f .set;
         clock = omega (arith, c);
         row = λ i l.
             subst₂ (λ (h : Hand) (j : Job). Kept (s .clock + 1) (rowAt s i) (holds h i) j)
-            (sym (ran-hand s (processorAt s i) (processor-most s f i l))) (sym (ran-job s i (omega (arith, l, w .rows-most)))) (kept-ran i l);
-        past = λ i l g. (f .past i l g .0, ran-job s i g ∙ past-ran i l g);
-        hand = λ p l. subst (OwnHand (s .set) p) (sym (ran-hand s p l)) (hand-ran p l);
+            (sym (ran-hand has s (processorAt s i) (processor-most s f i l))) (sym (ran-job has s i (omega (arith, l, w .rows-most)))) (kept-ran i l);
+        past = λ i l g. (f .past i l g .0, ran-job has s i g ∙ past-ran i l g);
+        hand = λ p l. subst (OwnHand (s .set) p) (sym (ran-hand has s p l)) (hand-ran p l);
       }
 
+module _ (s : State) (f : Shaped s) where
   -- A row that stands without the token: it is with a row of a higher-ranked processor, which is in memory.
   pub record TokenOver (i : ℕ) : Type 0 where
     pub other : ℕ
@@ -316,12 +318,13 @@ goes-on-how clock row token held job h = go (finishes row token (job .standing))
     go d e (stalls r) = going d e (sym e ∙ r .goes-on) (ap liveJobs (r .same))
     go d e (works w) = worked d e w (isAbsent st) refl
 
-pub row-goes-on : (s : State) → Shaped s → (i : ℕ) → i < s .set .count → GoesOn (rowAt s i) (hasToken s i) (jobAt s i) (jobAt (ran s) i)
-unfolding jobRun completes
-row-goes-on s f i l =
-    subst (GoesOn (rowAt s i) (hasToken s i) (jobAt s i)) (sym (ran-job s i (omega (arith, l, set-well-formed s f .rows-most))))
-    (goes-on-how (s .clock) (rowAt s i) (hasToken s i) (inHand s i) (jobAt s i) (f .row i l .standing))
+-- So do rules 3 and 4 with each row, whichever rows have the token.
+module _ (has : ℕ → Bool) (s : State) (f : Shaped s) (i : ℕ) (l : i < s .set .count) where
+  pub row-goes-on : GoesOn (rowAt s i) (has i) (jobAt s i) (jobAt (ranBy has s) i)
+  unfolding jobRunBy completesBy
+  row-goes-on =
+      subst (GoesOn (rowAt s i) (has i) (jobAt s i)) (sym (ran-job has s i (omega (arith, l, set-well-formed s f .rows-most))))
+      (goes-on-how (s .clock) (rowAt s i) (has i) (inHand s i) (jobAt s i) (f .row i l .standing))
 
-pub row-steps : (s : State) → Shaped s → (i : ℕ) → i < s .set .count
-    → StepHow (rowAt s i) (hasToken s i) (inHand s i) (standingAt s i) (steps (rowAt s i) (hasToken s i) (standingAt s i))
-row-steps s f i l = step-how (rowAt s i) (hasToken s i) (inHand s i) (standingAt s i) (f .row i l .standing)
+  pub row-steps : StepHow (rowAt s i) (has i) (inHand s i) (standingAt s i) (steps (rowAt s i) (has i) (standingAt s i))
+  row-steps = step-how (rowAt s i) (has i) (inHand s i) (standingAt s i) (f .row i l .standing)

@@ -188,3 +188,7 @@ set-well-formed s f =
       row = λ i l. faults.in-range _ _ _ (writing.set-rows (s .set) (f .set) i l);
       past = λ i l g. f .past i l g .0;
     }
+
+-- Its rows below n are below 32.
+pub below-most : (s : State) → Shaped s → (i : ℕ) → i < s .set .count → i < mostRows
+below-most s f i l = omega (arith, l, set-well-formed s f .rows-most)

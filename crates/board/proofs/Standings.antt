@@ -2,8 +2,12 @@
 use Prim.Native.Nat.{ℕ}
 use mathlib.Core.Path.{_≡_, refl, ap}
 use mathlib.Core.Bool.{Bool, true, false}
+use mathlib.Core.List.{[], _∷_}
+use mathlib.Core.Logic.{_⊎_, inl, inr, ⊎-elim}
 use native.Mathlib.Omega.{arith}
 use lib.Dec.{eqb}
+use denote.Enum.Declared.{tagOf}
+use types.Run.{OneOf}
 use Rattle.laws.specs.Choice.{pick}
 use Rattle.laws.specs.ChoiceLaws.{true-not-false}
 use Rattle.sheet.specs.Ranges.{memoryOf, computationOf}
@@ -15,6 +19,7 @@ use Rattle.board.specs.declared.Standing.the-variants.{Absent, Waiting, 
 use Rattle.board.specs.States.{isAbsent, isMemory}
 use Rattle.board.specs.Rules.{standAs, begins, steps, finished}
 use Rattle.board.specs.Parts.{tokenIn, afterIn, turnOf}
+use Rattle.board.proofs.Standing.{the-type}
 
 pub no-hold : {A : Type 0} (i : ℕ) → Free ≡ Holds i → A
 no-hold i e = absurd (let z : _≡_ {A = ℕ} 0 1 = cc in omega arith)
@@ -50,3 +55,16 @@ module _ (k : ℕ) (row : Row) (job : Job) (free : Bool) (clock : ℕ) (live : i
   pub turn-on : isAbsent (afterIn row job free) ≡ false → turnOf k row job free clock ≡ record { job = standAs job (afterIn row job free); place = record { hand = Holds k }; token = tokenIn row job free; done = false }
   unfolding turnOf
   turn-on h = simp (begins-live row (job .standing) live, h)
+
+-- `if let` tells the branch that it does not take only which variants are left, by their numbers.
+pub not-waiting : (row : Row) (st : Standing) → OneOf (0 ∷ 2 ∷ 3 ∷ []) (tagOf the-type st) → st ≡ begins row st
+not-waiting row Absent k = refl
+not-waiting row Waiting k = ⊎-elim (λ e. absurd (omega (arith, e))) (⊎-elim (λ e. absurd (omega (arith, e))) (λ e. absurd (omega (arith, e)))) k
+not-waiting row (Memory left) k = refl
+not-waiting row (Computation left) k = refl
+
+pub in-no-phase : (st : Standing) → OneOf (0 ∷ 1 ∷ 3 ∷ []) (tagOf the-type st) → OneOf (0 ∷ 1 ∷ 2 ∷ []) (tagOf the-type st) → (st ≡ Absent) ⊎ (st ≡ Waiting)
+in-no-phase Absent k m = inl refl
+in-no-phase Waiting k m = inr refl
+in-no-phase (Memory left) k m = ⊎-elim (λ e. absurd (omega (arith, e))) (⊎-elim (λ e. absurd (omega (arith, e))) (λ e. absurd (omega (arith, e)))) k
+in-no-phase (Computation left) k m = ⊎-elim (λ e. absurd (omega (arith, e))) (⊎-elim (λ e. absurd (omega (arith, e))) (λ e. absurd (omega (arith, e)))) m

@@ -35,7 +35,7 @@ is-held hand i e = rw e (eq-eqb i i refl)
 pub not-held : (hand : Hand) (i k : ℕ) → hand ≡ Holds k → (k ≡ i → ⊥) → holds hand i ≡ false
 not-held hand i k e d = rw e (ne-eqb k i d)
 
-waiting-is : (st : Standing) → isWaiting st ≡ true → st ≡ Waiting
+pub waiting-is : (st : Standing) → isWaiting st ≡ true → st ≡ Waiting
 waiting-is Absent h = true-not-false _ h refl
 waiting-is Waiting h = refl
 waiting-is (Memory left) h = true-not-false _ h refl

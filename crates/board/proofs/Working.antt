@@ -20,9 +20,9 @@ use Rattle.board.specs.declared.Hand.the-variants.{Holds}
 use Rattle.board.specs.declared.Standing.{Standing}
 use Rattle.board.specs.declared.Standing.the-variants.{Absent, Waiting, Memory, Computation}
 use Rattle.board.specs.States.{rowAt, jobAt, handAt, standingAt, isMemory, inHand}
-use Rattle.board.specs.Rules.{begins, jobTaken, taken, hasToken, steps, ran}
+use Rattle.board.specs.Rules.{begins, jobTaken, taken, hasToken, steps, ranBy}
 use Rattle.board.specs.Calls.{tickNumber, tickOf}
-use Rattle.board.specs.Work.{workLeft, memoryLeft, liveJobs, workDone, isWorking, works}
+use Rattle.board.specs.Work.{workLeft, memoryLeft, liveJobs, workDone, isWorking, worksBy, works}
 use Rattle.board.proofs.ShapeFacts.{Stands, OwnHand, Shaped, set-well-formed}
 use Rattle.board.proofs.Pointwise.{taken-job, taken-set}
 use Rattle.board.proofs.Taking.{AsWas, Begins, row-how, take-keeps, is-held}
@@ -89,10 +89,10 @@ worked row token (Computation left) h t = refl
 grows : (e r l l′ b : ℕ) → l ≡ l′ + b → l ≤ e * r → e * r - l′ ≡ (e * r - l) + b
 grows e r l l′ b h g = omega arith
 
--- Rules 2 to 5 do a tick of it for each job that works.
-running-works : (s : State) → Shaped s → (i : ℕ) → i < s .set .count → workDone (ran s) i ≡ workDone s i + bit (works s i)
-unfolding workDone works ran
-running-works s f i l = go (running.row-steps s f i l)
+-- Rules 3 to 5 do a tick of it for each job that works.
+running-works : (has : ℕ → Bool) (s : State) → Shaped s → (i : ℕ) → i < s .set .count → workDone (ranBy has s) i ≡ workDone s i + bit (worksBy has s i)
+unfolding workDone worksBy ranBy
+running-works has s f i l = go (running.row-steps has s f i l)
   where
     row : Row
     row = rowAt s i
@@ -100,8 +100,8 @@ running-works s f i l = go (running.row-steps s f i l)
     st : Standing
     st = standingAt s i
 
-    g : running.GoesOn row (hasToken s i) (jobAt s i) (jobAt (ran s) i)
-    g = running.row-goes-on s f i l
+    g : running.GoesOn row (has i) (jobAt s i) (jobAt (ranBy has s) i)
+    g = running.row-goes-on has s f i l
 
     most : workLeft row st ≤ lengthOf row * (jobAt s i .completed + liveJobs st)
     most = omega (arith, left-most row (inHand s i) st (f .row i l .standing), mul-le-mul-left (lengthOf row) (more (jobAt s i .completed) (liveJobs st)))
@@ -109,36 +109,36 @@ running-works s f i l = go (running.row-steps s f i l)
         more : (a b : ℕ) → b ≤ a + b
         more a b = omega arith
 
-    by : (b : ℕ) → workLeft row st ≡ workLeft row (steps row (hasToken s i) st) + b
-        → lengthOf row * (jobAt (ran s) i .completed + liveJobs (standingAt (ran s) i)) - workLeft row (standingAt (ran s) i)
+    by : (b : ℕ) → workLeft row st ≡ workLeft row (steps row (has i) st) + b
+        → lengthOf row * (jobAt (ranBy has s) i .completed + liveJobs (standingAt (ranBy has s) i)) - workLeft row (standingAt (ranBy has s) i)
         ≡ (lengthOf row * (jobAt s i .completed + liveJobs st) - workLeft row st) + b
     by b h =
         ap₂ (λ (r l : ℕ). lengthOf row * r - l) (g .released) (ap (workLeft row) (g .standing))
         ∙ grows (lengthOf row) (jobAt s i .completed + liveJobs st) (workLeft row st) _ b h most
 
-    same : (b : Bool) → isWorking (hasToken s i) st ≡ b → workLeft row st ≡ workLeft row (steps row (hasToken s i) st) + bit b → workDone (ran s) i ≡ workDone s i + bit (works s i)
+    same : (b : Bool) → isWorking (has i) st ≡ b → workLeft row st ≡ workLeft row (steps row (has i) st) + bit b → workDone (ranBy has s) i ≡ workDone s i + bit (worksBy has s i)
     same b e h = by (bit b) h ∙ ap (λ (x : Bool). (lengthOf row * (jobAt s i .completed + liveJobs st) - workLeft row st) + bit x) (sym e)
 
     held : (b : Bool) → inHand s i ≡ b → Stands row b st
     held b e = subst (λ (h : Bool). Stands row h st) e (f .row i l .standing)
 
-    go : running.StepHow row (hasToken s i) (inHand s i) st (steps row (hasToken s i) st) → workDone (ran s) i ≡ workDone s i + bit (works s i)
-    go (running.rests r) = same false (resting row (hasToken s i) st (held false (r .not-held))) (omega (arith, ap (workLeft row) (r .same)))
-    go (running.stalls r) = same false (stalled (hasToken s i) st (r .in-memory) ∙ r .no-token) (omega (arith, ap (workLeft row) (r .same)))
-    go (running.works r) = same true (worked row (hasToken s i) st (held true (r .in-hand)) (r .with-token)) (r .work)
+    go : running.StepHow row (has i) (inHand s i) st (steps row (has i) st) → workDone (ranBy has s) i ≡ workDone s i + bit (worksBy has s i)
+    go (running.rests r) = same false (resting row (has i) st (held false (r .not-held))) (omega (arith, ap (workLeft row) (r .same)))
+    go (running.stalls r) = same false (stalled (has i) st (r .in-memory) ∙ r .no-token) (omega (arith, ap (workLeft row) (r .same)))
+    go (running.works r) = same true (worked row (has i) st (held true (r .in-hand)) (r .with-token)) (r .work)
 
 -- An accepted tick.
 pub tick-works : (s : State) → tickNumber s ≡ 0 → (i : ℕ) → i < s .set .count → workDone (tickOf s .state) i ≡ workDone s i + bit (works (taken s) i)
 tick-works s h i l =
     let m = may-tick s h in
     rw (tick-accepted s h, tick-state s)
-    (running-works (taken s) (take-keeps s (m .shape)) i (subst (λ (x : Set). i < x .count) (sym (taken-set s)) l)
+    (running-works (hasToken (taken s)) (taken s) (take-keeps s (m .shape)) i (subst (λ (x : Set). i < x .count) (sym (taken-set s)) l)
     ∙ ap (λ (x : ℕ). x + bit (works (taken s) i)) (taking-no-work s (m .shape) i l))
 
 -- A processor with a job in hand works, or a row of a higher-ranked processor does a memory tick.
 pub works-or-stands : (s : State) → (f : Shaped s) → (p i : ℕ) → p < mostProcessors → handAt s p ≡ Holds i → (works s i ≡ true) ⊎ running.TokenOver s f i
-unfolding works
-works-or-stands s f p i l e = go (running.row-steps s f i (own .0))
+unfolding worksBy
+works-or-stands s f p i l e = go (running.row-steps (hasToken s) s f i (own .0))
   where
     own : OwnHand (s .set) p (Holds i)
     own = subst (OwnHand (s .set) p) e (f .hand p l)
@@ -153,5 +153,5 @@ works-or-stands s f p i l e = go (running.row-steps s f i (own .0))
 
 -- The row with the token works.
 pub token-works : (s : State) (f : Shaped s) (i : ℕ) → (o : running.TokenOver s f i) → works s (o .other) ≡ true
-unfolding works
+unfolding worksBy
 token-works s f i o = stalled (hasToken s (o .other)) (standingAt s (o .other)) (o .in-memory) ∙ o .token

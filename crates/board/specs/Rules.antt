@@ -70,6 +70,8 @@ tokenNamed p = pick (ltb p mostProcessors) (Processor p) Nobody
 unfoldable pub hasToken : State → ℕ → Bool
 hasToken s i = eqb (processorAt s i) (tokenAt s)
 
+-- Rules 3 to 5 are said for any `has`, which says of a row whether its job may do a memory tick now; here that is `hasToken`.
+
 -- 3. That job loses one memory tick; every job in computation loses one. Memory at 0 turns to computation with c ticks left,
 -- if c isn't 0. A job with nothing left is absent.
 abbrev pub computes : ℕ → Standing
@@ -99,22 +101,38 @@ finished t job =
       completed = job .completed + 1;
     }
 
-unfoldable pub completes : State → ℕ → Bool
-completes s i = finishes (rowAt s i) (hasToken s i) (standingAt s i)
+unfoldable pub completesBy : (ℕ → Bool) → State → ℕ → Bool
+completesBy has s i = finishes (rowAt s i) (has i) (standingAt s i)
 
-unfoldable pub jobRun : State → ℕ → Job
-jobRun s i =
-    pick (completes s i) (finished (s .clock) (jobAt s i)) (standAs (jobAt s i) (steps (rowAt s i) (hasToken s i) (standingAt s i)))
+unfoldable pub jobRunBy : (ℕ → Bool) → State → ℕ → Job
+jobRunBy has s i =
+    pick (completesBy has s i) (finished (s .clock) (jobAt s i)) (standAs (jobAt s i) (steps (rowAt s i) (has i) (standingAt s i)))
 
 -- and its processor free.
-unfoldable pub frees : State → Hand → Hand
-frees s Free = Free
-frees s (Holds i) = pick (completes s i) Free (Holds i)
+unfoldable pub freesBy : (ℕ → Bool) → State → Hand → Hand
+freesBy has s Free = Free
+freesBy has s (Holds i) = pick (completesBy has s i) Free (Holds i)
 
 -- 5. The clock is t + 1.
-unfoldable pub ran : State → State
-ran s = stateOf s (s .clock + 1) (λ p. frees s (handAt s p)) (jobRun s)
+unfoldable pub ranBy : (ℕ → Bool) → State → State
+ranBy has s = stateOf s (s .clock + 1) (λ p. freesBy has s (handAt s p)) (jobRunBy has s)
 
 -- The completed rows, as a word: bit i says that row i completed.
-unfoldable pub completedRows : State → ℕ
-completedRows s = word mostRows (completes s)
+unfoldable pub completedRowsBy : (ℕ → Bool) → State → ℕ
+completedRowsBy has s = word mostRows (completesBy has s)
+
+-- Rules 3 to 5 on this board.
+abbrev pub completes : State → ℕ → Bool
+completes s = completesBy (hasToken s) s
+
+abbrev pub jobRun : State → ℕ → Job
+jobRun s = jobRunBy (hasToken s) s
+
+abbrev pub frees : State → Hand → Hand
+frees s = freesBy (hasToken s) s
+
+abbrev pub ran : State → State
+ran s = ranBy (hasToken s) s
+
+abbrev pub completedRows : State → ℕ
+completedRows s = completedRowsBy (hasToken s) s

@@ -41,5 +41,8 @@ isWorking token Waiting = false
 isWorking token (Memory left) = token
 isWorking token (Computation left) = true
 
-unfoldable pub works : State → ℕ → Bool
-works s i = isWorking (hasToken s i) (standingAt s i)
+unfoldable pub worksBy : (ℕ → Bool) → State → ℕ → Bool
+worksBy has s i = isWorking (has i) (standingAt s i)
+
+abbrev pub works : State → ℕ → Bool
+works s = worksBy (hasToken s) s

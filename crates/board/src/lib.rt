@@ -1,9 +1,10 @@
 // The board, tick by tick: a state, and the calls that start it, release a row and make a tick.
+use sheet::Reading;
 use sheet::Refusal;
 use sheet::Set;
 ghost use mathlib.Core.Path.{_≡_};
-ghost use Rattle.board.specs.States.{noJob, startSet};
-ghost use Rattle.board.specs.Calls.{startOf, releaseOf, tickNumber, tickOf};
+ghost use Rattle.board.specs.States.{noJob, startSet, zeroState};
+ghost use Rattle.board.specs.Calls.{startReading, startOf, releaseOf, tickOf};
 
 mod rules;
 mod shape;
@@ -117,47 +118,87 @@ fn fresh(set: Set) -> State
     state
 }
 
-// A refused reading has the all-zero set, and a fresh start over that is the all-zero state.
-pub fn start(sheet: &[u8]) -> Started
-    ensures { λ r. ⌜ r ≡ startOf (now (sheet .entry)) ⌝ }
+// The all-zero state: a refused start hands it back, and every call on it is refused.
+pub fn no_state() -> State
+    ensures { λ r. ⌜ r ≡ zeroState ⌝ }
 {
-    let reading = sheet::read(sheet);
-    let set = reading.set;
+    fresh(sheet::no_set())
+}
+
+// A start from what was read, however it was read.
+pub fn start_reading(reading: Reading) -> Started
+    ensures { λ r. ⌜ r ≡ startReading reading ⌝ }
+{
     let refusal = reading.refusal;
+    if refusal.number != sheet::refusals::ACCEPTED {
+        return Started {
+            state: no_state(),
+            refusal: refusal,
+        };
+    }
+    let set = reading.set;
     Started {
         state: fresh(set),
         refusal: refusal,
     }
 }
 
+pub fn start(sheet: &[u8]) -> Started
+    ensures { λ r. ⌜ r ≡ startOf (now (sheet .entry)) ⌝ }
+{
+    start_reading(sheet::read(sheet))
+}
+
 impl State {
-    // One pass gathers each processor's waiting rows in a word; one pass over the processors, highest rank first, has each
-    // take, gives the token to the first in memory, and steps and completes. Places and jobs are changed in copies of their own
-    // and put together at the one way out: with a way out for each refusal the state would be copied once more.
-    fn moved(self, number: u8) -> Ticked
-        requires { ⌜ number ≡ tickNumber self ⌝ }
+    // The loops of the check stand here, over the copies that the move then changes: a function that is handed them would copy
+    // them again, and so would a second way out. One pass over the rows tests each and gathers each processor's waiting rows in a
+    // word; after the check one pass over the processors, highest rank first, has each take, gives the token to the first in
+    // memory, and steps and completes.
+    pub fn tick(self) -> Ticked
         ensures { λ r. ⌜ r ≡ tickOf self ⌝ }
     {
         let set = self.set;
         let clock = self.clock;
         let mut places = self.places;
         let mut jobs = self.jobs;
+        let processors = set.processors;
+        let count = set.count;
+        let mut fits = shape::head_fits(processors, count, clock);
+        let mut masks = [0u32; 8];
+        let mut before: u8 = 0;
+        let mut i: usize = 0;
+        while (i < 32) & (i < count) & fits {
+            let row = set.rows[i];
+            let job = jobs[i];
+            let on = (row.processor % 8) as usize;
+            let place = places[on];
+            fits = shape::part_fits(processors, before, clock, i as u32, row, place, job);
+            let standing = job.standing;
+            if rules::is_waiting(standing) {
+                masks[on] |= 1u32 << i as u32;
+            }
+            before = row.processor;
+            i += 1;
+        }
+        while (i < 32) & fits {
+            let row = set.rows[i];
+            let job = jobs[i];
+            fits = shape::part_is_zero(row, job);
+            i += 1;
+        }
+        let mut h: usize = 0;
+        while h < 8 {
+            let place = places[h];
+            let k = (shape::row_or(place, 0) % 32) as usize;
+            let on = set.rows[k].processor;
+            fits = fits & shape::hand_is_own(place, on, h, count, processors);
+            h += 1;
+        }
+        let number = rules::tick_number(fits, clock);
         let mut token: u8 = 8;
         let mut completed: u32 = 0;
         let mut next = clock;
         if number == sheet::refusals::ACCEPTED {
-            let count = set.count;
-            let mut masks = [0u32; 8];
-            let mut i: usize = 0;
-            while i < count {
-                let job = jobs[i];
-                let standing = job.standing;
-                if rules::is_waiting(standing) {
-                    let p = set.rows[i].processor as usize;
-                    masks[p] |= 1u32 << i as u32;
-                }
-                i += 1;
-            }
             let mut p: u8 = 0;
             while p < 8 {
                 let q = p as usize;
@@ -198,16 +239,7 @@ impl State {
         }
     }
 
-    pub fn tick(self) -> Ticked
-        ensures { λ r. ⌜ r ≡ tickOf self ⌝ }
-    {
-        let set = self.set;
-        let clock = self.clock;
-        let places = self.places;
-        let jobs = self.jobs;
-        self.moved(rules::tick_number(shape::state_fits(set, clock, places, jobs), clock))
-    }
-
+    // The loops of the check stand here for the same reason as in `tick`.
     pub fn release(self, row: usize) -> Released
         ensures { λ r. ⌜ r ≡ releaseOf self row ⌝ }
     {
@@ -215,21 +247,43 @@ impl State {
         let clock = self.clock;
         let places = self.places;
         let mut jobs = self.jobs;
+        let processors = set.processors;
+        let count = set.count;
+        let mut fits = shape::head_fits(processors, count, clock);
+        let mut before: u8 = 0;
+        let mut i: usize = 0;
+        while (i < 32) & (i < count) & fits {
+            let part = set.rows[i];
+            let job = jobs[i];
+            let on = (part.processor % 8) as usize;
+            let place = places[on];
+            fits = shape::part_fits(processors, before, clock, i as u32, part, place, job);
+            before = part.processor;
+            i += 1;
+        }
+        while (i < 32) & fits {
+            let part = set.rows[i];
+            let job = jobs[i];
+            fits = shape::part_is_zero(part, job);
+            i += 1;
+        }
+        let mut h: usize = 0;
+        while h < 8 {
+            let place = places[h];
+            let k = (shape::row_or(place, 0) % 32) as usize;
+            let on = set.rows[k].processor;
+            fits = fits & shape::hand_is_own(place, on, h, count, processors);
+            h += 1;
+        }
         let mut number = sheet::refusals::STATE;
-        if shape::state_fits(set, clock, places, jobs) {
+        if fits {
             number = sheet::refusals::ROW;
-            if row < set.count {
+            if row < count {
                 let job = jobs[row];
                 let period = set.rows[row].period;
                 number = rules::release_number(clock, period, job);
                 if number == sheet::refusals::ACCEPTED {
-                    jobs[row] = Job {
-                        ever: true,
-                        last: clock,
-                        standing: Standing::Waiting,
-                        worst: job.worst,
-                        completed: job.completed,
-                    };
+                    jobs[row] = rules::released_job(clock, job);
                 }
             }
         }

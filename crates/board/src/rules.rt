@@ -11,7 +11,7 @@ ghost use Prim.Native.Nat.{_-_, _≤_};
 ghost use Rattle.laws.specs.Choice.{firstOf};
 ghost use Rattle.board.specs.States.{isWaiting, isMemory};
 ghost use Rattle.board.specs.Rules.{begins, computes, fetches, steps, finished, standAs, tokenNamed};
-ghost use Rattle.board.specs.Calls.{tickTable, releaseTable};
+ghost use Rattle.board.specs.Calls.{tickTable, releaseTable, waitingFrom};
 ghost use Rattle.board.specs.Parts.{Timely, InTurn, turnOf};
 
 pub(crate) fn is_waiting(standing: Standing) -> bool
@@ -39,18 +39,13 @@ fn is_memory(standing: Standing) -> bool
 fn begun(row: Row, standing: Standing) -> Standing
     ensures { λ r. ⌜ r ≡ begins row standing ⌝ }
 {
-    match standing {
-        Standing::Absent => standing,
-        Standing::Waiting => {
-            if row.memory == 0 {
-                Standing::Computation(row.computation)
-            } else {
-                Standing::Memory(row.memory)
-            }
+    if let Standing::Waiting = standing {
+        if row.memory == 0 {
+            return Standing::Computation(row.computation);
         }
-        Standing::Memory(_) => standing,
-        Standing::Computation(_) => standing,
+        return Standing::Memory(row.memory);
     }
+    standing
 }
 
 // One tick less; 0 stays 0.
@@ -83,18 +78,16 @@ fn fetching(row: Row, left: u32) -> Standing
 fn stepped(row: Row, token: bool, standing: Standing) -> Standing
     ensures { λ r. ⌜ r ≡ steps row «token» standing ⌝ }
 {
-    match standing {
-        Standing::Absent => standing,
-        Standing::Waiting => standing,
-        Standing::Memory(left) => {
-            if token {
-                fetching(row, one_less(left))
-            } else {
-                standing
-            }
+    if let Standing::Memory(left) = standing {
+        if token {
+            return fetching(row, one_less(left));
         }
-        Standing::Computation(left) => computing(one_less(left)),
+        return standing;
     }
+    if let Standing::Computation(left) = standing {
+        return computing(one_less(left));
+    }
+    standing
 }
 
 fn standing_as(job: Job, standing: Standing) -> Job
@@ -175,6 +168,19 @@ pub(crate) fn tick_number(fits: bool, clock: u32) -> u8
         return sheet::refusals::CLOCK;
     }
     sheet::refusals::ACCEPTED
+}
+
+// A release makes the job waiting.
+pub(crate) fn released_job(clock: u32, job: Job) -> Job
+    ensures { λ r. ⌜ r ≡ waitingFrom clock job ⌝ }
+{
+    Job {
+        ever: true,
+        last: clock,
+        standing: Standing::Waiting,
+        worst: job.worst,
+        completed: job.completed,
+    }
 }
 
 pub(crate) fn release_number(clock: u32, period: u32, job: Job) -> u8

@@ -4,11 +4,10 @@ use crate::Job;
 use crate::Place;
 use crate::Standing;
 use sheet::Row;
-use sheet::Set;
 ghost use mathlib.Core.Path.{_≡_};
 ghost use Rattle.board.specs.States.{isAbsent, holds};
-ghost use Rattle.board.specs.Shape.{rowIsZero, absentWithZeros, jobIsZero, standingFits, jobFits, shapeOk};
-ghost use Rattle.board.specs.Parts.{rowOr, handIsOwn};
+ghost use Rattle.board.specs.Shape.{rowIsZero, absentWithZeros, jobIsZero, standingFits, jobFits};
+ghost use Rattle.board.specs.Parts.{rowOr, handIsOwn, headFits, partFits, partIsZero};
 
 // Numbers are all 0 exactly if their sum is. One test of the sum, here and below: tests of each number would become vector code, and
 // that may be slow.
@@ -47,24 +46,37 @@ fn job_is_zero(job: Job) -> bool
     !job.ever & absent_with_zeros(job)
 }
 
+// No `match`, here and in the rules: it becomes a jump by a table, which is slower than two tests.
 fn standing_fits(row: Row, held: bool, standing: Standing) -> bool
     ensures { λ r. ⌜ r ≡ standingFits row «held» standing ⌝ }
 {
-    match standing {
-        Standing::Absent => !held,
-        Standing::Waiting => !held,
-        Standing::Memory(left) => held & (1 <= left) & (left <= row.memory),
-        Standing::Computation(left) => held & (1 <= left) & (left <= row.computation),
+    if let Standing::Memory(left) = standing {
+        return held & (1 <= left) & (left <= row.memory);
     }
+    if let Standing::Computation(left) = standing {
+        return held & (1 <= left) & (left <= row.computation);
+    }
+    !held
 }
 
+// A branch for each test: joined by `&` they are slower.
 fn job_fits(clock: u32, row: Row, held: bool, job: Job) -> bool
     ensures { λ r. ⌜ r ≡ jobFits clock row «held» job ⌝ }
 {
+    if clock < job.last {
+        return false;
+    }
+    if clock < job.worst {
+        return false;
+    }
+    if clock < job.completed {
+        return false;
+    }
+    if !(job.ever | absent_with_zeros(job)) {
+        return false;
+    }
     let standing = job.standing;
-    let zero = absent_with_zeros(job);
-    let fits = standing_fits(row, held, standing);
-    (job.last <= clock) & (job.worst <= clock) & (job.completed <= clock) & (job.ever | zero) & fits
+    standing_fits(row, held, standing)
 }
 
 fn holds_row(place: Place, i: u32) -> bool
@@ -88,7 +100,7 @@ pub(crate) fn row_or(place: Place, other: u32) -> u32
     }
 }
 
-fn hand_is_own(place: Place, on: u8, p: usize, count: usize, processors: u8) -> bool
+pub(crate) fn hand_is_own(place: Place, on: u8, p: usize, count: usize, processors: u8) -> bool
     ensures { λ r. ⌜ r ≡ handIsOwn (place .hand) on p count processors ⌝ }
 {
     let hand = place.hand;
@@ -100,48 +112,33 @@ fn hand_is_own(place: Place, on: u8, p: usize, count: usize, processors: u8) -> 
     }
 }
 
-// A state's parts and no state: each is read in its own place, and none is put together for the call.
-pub(crate) fn state_fits(set: Set, clock: u32, places: [Place; 8], jobs: [Job; 32]) -> bool
-    ensures { λ r. ⌜ r ≡ shapeOk (record { set = set; clock = clock; places = places; jobs = jobs }) ⌝ }
+pub(crate) fn head_fits(processors: u8, count: usize, clock: u32) -> bool
+    ensures { λ r. ⌜ r ≡ headFits processors count clock ⌝ }
 {
-    let processors = set.processors;
-    let count = set.count;
-    if !((1 <= processors) & (processors <= 8) & (count <= 32) & (clock <= crate::MOST_CLOCK)) {
+    (1 <= processors) & (processors <= 8) & (count <= 32) & (clock <= crate::MOST_CLOCK)
+}
+
+// Row i, below n, and what is kept for it: `before` is the processor of the row before it, `place` that of the row's own.
+pub(crate) fn part_fits(
+    processors: u8,
+    before: u8,
+    clock: u32,
+    i: u32,
+    row: Row,
+    place: Place,
+    job: Job,
+) -> bool
+    ensures { λ r. ⌜ r ≡ partFits processors before clock i row place job ⌝ }
+{
+    if sheet::row_fault(processors, before, row) != sheet::refusals::ACCEPTED {
         return false;
     }
-    let mut before: u8 = 0;
-    let mut i: usize = 0;
-    while i < count {
-        let row = set.rows[i];
-        let job = jobs[i];
-        if sheet::row_fault(processors, before, row) != sheet::refusals::ACCEPTED {
-            return false;
-        }
-        let p = row.processor as usize;
-        let place = places[p];
-        if !job_fits(clock, row, holds_row(place, i as u32), job) {
-            return false;
-        }
-        before = row.processor;
-        i += 1;
-    }
-    while i < 32 {
-        let row = set.rows[i];
-        let job = jobs[i];
-        if !(row_is_zero(row) & job_is_zero(job)) {
-            return false;
-        }
-        i += 1;
-    }
-    let mut p: usize = 0;
-    while p < 8 {
-        let place = places[p];
-        let k = (row_or(place, 0) % 32) as usize;
-        let on = set.rows[k].processor;
-        if !hand_is_own(place, on, p, count, processors) {
-            return false;
-        }
-        p += 1;
-    }
-    true
+    job_fits(clock, row, holds_row(place, i), job)
+}
+
+// A row past n, and what is kept for it.
+pub(crate) fn part_is_zero(row: Row, job: Job) -> bool
+    ensures { λ r. ⌜ r ≡ partIsZero row job ⌝ }
+{
+    row_is_zero(row) & job_is_zero(job)
 }
