@@ -1,7 +1,7 @@
 pub mod Observed
 pub mod Steps
 pub mod Reached
-pub mod Kept
+pub mod AnyBoard
 pub mod Sound
 pub mod Acceptance
 pub mod Promised

@@ -68,19 +68,6 @@ all-in-hand row Waiting h = true-not-false _ refl h
 all-in-hand row (Memory left) h = refl
 all-in-hand row (Computation left) h = refl
 
--- Work is left exactly of a live job.
-pub live-work : (row : Row) (held : Bool) (st : Standing) → 1 ≤ lengthOf row → Stands row held st → isAbsent st ≡ false → 1 ≤ workLeft row st
-live-work row held Absent e h l = true-not-false _ refl l
-live-work row held Waiting e h l = e
-live-work row held (Memory left) e h l = omega (arith, h)
-live-work row held (Computation left) e h l = omega (arith, h)
-
-pub no-work : (row : Row) (held : Bool) (st : Standing) → 1 ≤ lengthOf row → Stands row held st → workLeft row st ≡ 0 → st ≡ Absent
-no-work row held Absent e h z = refl
-no-work row held Waiting e h z = absurd (omega arith)
-no-work row held (Memory left) e h z = absurd (omega (arith, h))
-no-work row held (Computation left) e h z = absurd (omega (arith, h))
-
 pub memory-some : (row : Row) (held : Bool) (st : Standing) → Stands row held st → isMemory st ≡ true → 1 ≤ memoryLeft row st
 memory-some row held Absent h m = true-not-false _ m refl
 memory-some row held Waiting h m = true-not-false _ m refl

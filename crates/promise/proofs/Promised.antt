@@ -1,10 +1,11 @@
 -- Demand 3 is shown: for every well-formed set that the analysis accepts, and for every sheet.
 use mathlib.Core.Path.{_≡_, sym, ap, subst, _∙_}
 use mathlib.Core.List.{List}
-use Prim.Native.Nat.{ℕ, _≤_, _<_}
+use Prim.Native.Nat.{ℕ, _<_}
+use native.Mathlib.Omega.{arith}
 use borrow.Author.Tests.{eq-eqb}
 use Rattle.laws.specs.ChoiceLaws.{pick-true}
-use Rattle.sheet.specs.Refusals.{accepted}
+use Rattle.sheet.specs.Refusals.{accepted, accepts}
 use Rattle.sheet.specs.Ranges.{WellFormed}
 use Rattle.sheet.specs.Reading.{readRefusal, setOf}
 use Rattle.sheet.specs.declared.Set.{Set}
@@ -17,13 +18,14 @@ use Rattle.analysis.specs.Analysis.{analysed}
 use Rattle.analysis.proofs.AcceptedSheet.{AcceptedSheet, accepted-sheet, bound-written}
 use Rattle.board.specs.declared.State.{State}
 use Rattle.board.specs.States.{startSet}
-use Rattle.board.specs.Calls.{startReading, startOf, releaseOf}
+use Rattle.board.specs.Calls.{startReading, startOf}
 use Rattle.board.proofs.Pointwise.{start-set}
-use Rattle.board.proofs.Kept.{may-release, release-answer}
-use Rattle.promise.specs.Runs.{calls, ticksIn}
+use Rattle.runs.specs.Runs.{release, calls}
+use Rattle.runs.proofs.Calling.{accepted-release}
+use Rattle.runs.proofs.OfSets.{row-of-set}
+use Rattle.runs.proofs.FirstBoard.{call-how, of-set}
 use Rattle.promise.specs.Promises.{RowInTime, Promises, PromisedOfSets, PromisedOfSheets}
 use Rattle.promise.proofs.Acceptance.{accepted-system, row-bound}
-use Rattle.promise.proofs.Reached.{reached}
 use Rattle.promise.proofs.Sound as sound
 
 pub promised-of-sets : PromisedOfSets
@@ -37,8 +39,8 @@ promises-same set w a b same p =
       in-time = λ cs i l. subst (RowInTime (calls (startSet set) cs) i) (same i (subst (λ (x : Set). i < x .count) (start-set set) l)) (p .in-time cs i l);
       complete = λ before i after e enough.
           let s = calls (startSet set) before in
-          let n = may-release s i (ap (λ (x : Refusal). x .number) (sym (release-answer s i) ∙ e)) .below in
-          p .complete before i after e (subst (λ (x : ℕ). x ≤ ticksIn (releaseOf s i .state) after) (sym (same i (subst (λ (x : Set). i < x .count) (reached set a w before .over) n))) enough);
+          let n = accepted-release (call-how s (release i)) (ap accepts e) .0 .below in
+          p .complete before i after e (omega (arith, enough, same i (row-of-set (of-set set w before) i n)));
       never-live = p .never-live;
     }
 

@@ -1,11 +1,13 @@
 -- The board's calls are steps of the theory: a release, and the two halves of a tick.
-use mathlib.Core.Path.{_≡_, refl, sym, ap, subst, _∙_}
+use mathlib.Core.Path.{_≡_, refl, sym, ap, ap₂, subst, _∙_}
 use mathlib.Core.Bool.{Bool, true, false}
 use mathlib.Core.Logic.{_⊎_, inl, inr}
 use Prim.Native.Nat.{ℕ, _+_, _≤_, _<_}
 use native.Mathlib.Omega.{arith}
 use Rattle.laws.specs.ChoiceLaws.{true-not-false}
-use Rattle.sheet.specs.Ranges.{mostProcessors, mostRows, WellFormed}
+use Rattle.sheet.specs.Ranges.{mostProcessors, mostRows, rowIn, WellFormed}
+use Rattle.sheet.specs.declared.Row.{Row}
+use Rattle.sheet.specs.declared.Set.{Set}
 use Rattle.board.specs.declared.Job.{Job}
 use Rattle.board.specs.declared.State.{State}
 use Rattle.board.specs.declared.Hand.{Hand}
@@ -16,11 +18,12 @@ use Rattle.board.specs.States.{rowAt, jobAt, handAt, processorAt, standingAt, i
 use Rattle.board.specs.Rules.{firstWaiting, handTaken, jobTaken, taken, hasToken, steps, ran}
 use Rattle.board.specs.Calls.{waitingFrom, released}
 use Rattle.board.specs.Work.{workLeft, memoryLeft, liveJobs}
-use Rattle.board.proofs.ShapeFacts.{Stands, OwnHand, Shaped, set-well-formed}
+use Rattle.board.proofs.ShapeFacts.{Stands, OwnHand, Shaped, set-well-formed, below-most}
 use Rattle.board.proofs.Pointwise.{taken-job, taken-hand, taken-set, taken-clock, ran-set, ran-clock, released-job, released-other, released-set, released-clock}
 use Rattle.board.proofs.Taking.{AsWas, Begins, row-how, HandHow, had, took, none, hand-how, first-before, take-keeps, processor-most, is-held}
 use Rattle.board.proofs.Running.{StepHow, rests, stalls, works, token-over, row-goes-on, row-steps}
 use Rattle.board.proofs.Kept.{MayRelease}
+use Rattle.board.proofs.Jobs.{ever}
 use Rattle.board.proofs.Working.{begun}
 use Rattle.theory.specs.System.{System}
 use Rattle.theory.specs.Steps as theory
@@ -36,8 +39,20 @@ module _ (s : State) (f : Shaped s) (bound : ℕ → ℕ) where
   w : WellFormed (s .set)
   w = set-well-formed s f
 
-  most : (j : ℕ) → j < s .set .count → j < mostRows
-  most j l = omega (arith, l, w .rows-most)
+  -- A row whose job is the same is unchanged.
+  same-job : (t : State) → t .set ≡ s .set → (k : ℕ) → jobAt t k ≡ jobAt s k → theory.Unchanged (observed s) (observed t) k
+  unfolding observed
+  same-job t e k j =
+      record {
+        released = ap (λ (x : Job). x .completed + liveJobs (x .standing)) j;
+        last = ap (λ (x : Job). x .last) j;
+        workLeft = of-row workLeft;
+        memoryLeft = of-row memoryLeft;
+        inHand = of-row leftInHand;
+      }
+    where
+      of-row : (left : Row → Standing → ℕ) → left (rowAt t k) (standingAt t k) ≡ left (rowAt s k) (standingAt s k)
+      of-row left = ap₂ (λ (x : Set) (y : Job). left (rowIn x k) (y .standing)) e j
 
   -- A release.
   pub release-step : (i : ℕ) → MayRelease s i → theory.Releases sys i (observed s) (observed (released s i))
@@ -45,7 +60,7 @@ module _ (s : State) (f : Shaped s) (bound : ℕ → ℕ) where
   release-step i m =
       record {
         below = m .below;
-        not-early = λ h. m .not-early (ever h);
+        not-early = λ h. m .not-early (ever (f .row i (m .below)) h);
         not-live = ap (workLeft (rowAt s i)) (m .absent);
         clock = released-clock s i;
         released = ap (λ (j : Job). j .completed + liveJobs (j .standing)) new ∙ omega (arith, ap liveJobs (m .absent));
@@ -53,34 +68,15 @@ module _ (s : State) (f : Shaped s) (bound : ℕ → ℕ) where
         workLeft = rw (released-set s i) (ap (λ (j : Job). workLeft (rowAt s i) (j .standing)) new);
         memoryLeft = rw (released-set s i) (ap (λ (j : Job). memoryLeft (rowAt s i) (j .standing)) new);
         inHand = rw (released-set s i) (ap (λ (j : Job). leftInHand (rowAt s i) (j .standing)) new);
-        others = λ k l d. others k (released-other s i k (most k l) d);
+        others = λ k l d. same-job (released s i) (released-set s i) k (released-other s i k (below-most s f k l) d);
       }
     where
       new : jobAt (released s i) i ≡ waitingFrom (s .clock) (jobAt s i)
-      new = released-job s i (most i (m .below))
-
-      ever : 1 ≤ jobAt s i .completed + liveJobs (standingAt s i) → jobAt s i .ever ≡ true
-      ever h = go (jobAt s i .ever) refl
-        where
-          go : (b : Bool) → jobAt s i .ever ≡ b → jobAt s i .ever ≡ true
-          go true e = e
-          go false e =
-              let z = f .row i (m .below) .never e in
-              absurd (omega (arith, h, ap (λ (j : Job). j .completed + liveJobs (j .standing)) z))
-
-      others : (k : ℕ) → jobAt (released s i) k ≡ jobAt s k → theory.Unchanged (observed s) (observed (released s i)) k
-      others k e =
-          record {
-            released = ap (λ (j : Job). j .completed + liveJobs (j .standing)) e;
-            last = ap (λ (j : Job). j .last) e;
-            workLeft = rw (released-set s i) (ap (λ (j : Job). workLeft (rowAt s k) (j .standing)) e);
-            memoryLeft = rw (released-set s i) (ap (λ (j : Job). memoryLeft (rowAt s k) (j .standing)) e);
-            inHand = rw (released-set s i) (ap (λ (j : Job). leftInHand (rowAt s k) (j .standing)) e);
-          }
+      new = released-job s i (below-most s f i (m .below))
 
   -- Rule 1.
   job-taken : (j : ℕ) → j < s .set .count → jobAt (taken s) j ≡ jobTaken s j
-  job-taken j l = taken-job s j (most j l)
+  job-taken j l = taken-job s j (below-most s f j l)
 
   -- Where processor p has none in hand, none of its rows is,
   free-hand : (p : ℕ) → handAt s p ≡ Free → (k : ℕ) → processorAt s k ≡ p → inHand s k ≡ false
@@ -92,21 +88,15 @@ module _ (s : State) (f : Shaped s) (bound : ℕ → ℕ) where
     where
       go : (st : Standing) → standingAt s k ≡ st → Stands (rowAt s k) false st → workLeft (rowAt s k) st ≡ 0
       go Absent d o = refl
-      go Waiting d o = absurd (omega (arith, h, first-before s p k (most k l) d q))
+      go Waiting d o = absurd (omega (arith, h, first-before s p k (below-most s f k l) d q))
       go (Memory left) d o = true-not-false _ (o .0) refl
       go (Computation left) d o = true-not-false _ (o .0) refl
 
   takes-row : (j : ℕ) → (l : j < s .set .count) → AsWas s j ⊎ Begins s j → theory.TakesRow sys (observed s) (observed (taken s)) j
   unfolding systemOf observed
   takes-row j l (inl a) =
-      let e = job-taken j l ∙ a .job in
-      record {
-        released = ap (λ (j : Job). j .completed + liveJobs (j .standing)) e;
-        last = ap (λ (j : Job). j .last) e;
-        workLeft = rw (taken-set s) (ap (λ (x : Job). workLeft (rowAt s j) (x .standing)) e);
-        memoryLeft = rw (taken-set s) (ap (λ (x : Job). memoryLeft (rowAt s j) (x .standing)) e);
-        hand = inl (rw (taken-set s) (ap (λ (x : Job). leftInHand (rowAt s j) (x .standing)) e));
-      }
+      let u = same-job (taken s) (taken-set s) j (job-taken j l ∙ a .job) in
+      record { released = u .released; last = u .last; workLeft = u .workLeft; memoryLeft = u .memoryLeft; hand = inl (u .inHand) }
   takes-row j l (inr b) =
       let e = job-taken j l ∙ b .job in
       let row = rowAt s j in
@@ -149,9 +139,9 @@ module _ (s : State) (f : Shaped s) (bound : ℕ → ℕ) where
 
       nothing : handAt s p ≡ Free → mostRows ≤ firstWaiting s p → AsWas s j ⊎ Begins s j → ⊥
       nothing e h (inl a) =
-          let z = idle-before p e j l refl (omega (arith, h, most j l)) in
+          let z = idle-before p e j l refl (omega (arith, h, below-most s f j l)) in
           omega (arith, live, z, ap (λ (x : Job). workLeft (rowAt s j) (x .standing)) (job-taken j l ∙ a .job))
-      nothing e h (inr b) = omega (arith, h, b .first, most j l)
+      nothing e h (inr b) = omega (arith, h, b .first, below-most s f j l)
 
       go : (h : Hand) → handAt (taken s) p ≡ h → HandHow s p h → Goal
       go h e (had k q) = in-hand k e
@@ -168,7 +158,7 @@ module _ (s : State) (f : Shaped s) (bound : ℕ → ℕ) where
 
   standing-after : (j : ℕ) → j < s .set .count → standingAt (ran s) j ≡ after j
   unfolding after
-  standing-after j l = row-goes-on s f j l .standing
+  standing-after j l = row-goes-on (hasToken s) s f j l .standing
 
   moves-how : (j : ℕ) → (l : j < s .set .count) → StepHow (rowAt s j) (hasToken s j) (inHand s j) (standingAt s j) (after j) → theory.Moves sys (observed s) (observed (ran s)) j
   unfolding systemOf observed after
@@ -178,18 +168,18 @@ module _ (s : State) (f : Shaped s) (bound : ℕ → ℕ) where
       let z = none-in-hand row (standingAt s j) (stands-at s f j l false (r .not-held)) in
       theory.rests (record {
         before = z;
-        after = rw (ran-set s) (ap (leftInHand row) e ∙ z);
-        workLeft = rw (ran-set s) (ap (workLeft row) e);
-        memoryLeft = rw (ran-set s) (ap (memoryLeft row) e);
+        after = rw (ran-set (hasToken s) s) (ap (leftInHand row) e ∙ z);
+        workLeft = rw (ran-set (hasToken s) s) (ap (workLeft row) e);
+        memoryLeft = rw (ran-set (hasToken s) s) (ap (memoryLeft row) e);
       })
   moves-how j l (works r) =
       let row = rowAt s j in
       let e = standing-after j l in
       theory.works (record {
         before = some-in-hand row (standingAt s j) (stands-at s f j l true (r .in-hand));
-        after = rw (ran-set s, e) (all-in-hand row (after j) (r .stands));
-        workLeft = rw (ran-set s, e) (r .work);
-        memoryLeft = rw (ran-set s, e) (r .memory);
+        after = rw (ran-set (hasToken s) s, e) (all-in-hand row (after j) (r .stands));
+        workLeft = rw (ran-set (hasToken s) s, e) (r .work);
+        memoryLeft = rw (ran-set (hasToken s) s, e) (r .memory);
       })
   moves-how j l (stalls r) =
       let row = rowAt s j in
@@ -197,21 +187,21 @@ module _ (s : State) (f : Shaped s) (bound : ℕ → ℕ) where
       let o = token-over s f j l (r .in-memory) (r .no-token) in
       theory.stands (record {
         before = some-in-hand row (standingAt s j) (stands-at s f j l true (r .in-hand));
-        after = rw (ran-set s) (ap (leftInHand row) e);
+        after = rw (ran-set (hasToken s) s) (ap (leftInHand row) e);
         in-memory = memory-some row _ (standingAt s j) (f .row j l .standing) (r .in-memory);
-        workLeft = rw (ran-set s) (ap (workLeft row) e);
-        memoryLeft = rw (ran-set s) (ap (memoryLeft row) e);
+        workLeft = rw (ran-set (hasToken s) s) (ap (workLeft row) e);
+        memoryLeft = rw (ran-set (hasToken s) s) (ap (memoryLeft row) e);
         other = o .other;
         below = o .below;
         over = o .over;
-        token = fetched (o .other) (o .below) (o .in-memory) (o .token) (row-steps s f (o .other) (o .below));
+        token = fetched (o .other) (o .below) (o .in-memory) (o .token) (row-steps (hasToken s) s f (o .other) (o .below));
       })
     where
       -- The row that has the token loses a memory tick.
       fetched : (k : ℕ) → (l : k < s .set .count) → isMemory (standingAt s k) ≡ true → hasToken s k ≡ true → StepHow (rowAt s k) (hasToken s k) (inHand s k) (standingAt s k) (after k)
           → memoryLeft (rowAt s k) (standingAt s k) ≡ memoryLeft (rowAt (ran s) k) (standingAt (ran s) k) + 1
       fetched k l m t (works r) =
-          rw (ran-set s, standing-after k l) (omega (arith, r .memory, memory-some (rowAt s k) _ (standingAt s k) (f .row k l .standing) m))
+          rw (ran-set (hasToken s) s, standing-after k l) (omega (arith, r .memory, memory-some (rowAt s k) _ (standingAt s k) (f .row k l .standing) m))
       fetched k l m t (stalls r) = true-not-false _ t (r .no-token)
       fetched k l m t (rests r) = true-not-false _ (memory-in-hand (rowAt s k) _ (standingAt s k) (f .row k l .standing) m) (r .not-held)
 
@@ -219,7 +209,7 @@ module _ (s : State) (f : Shaped s) (bound : ℕ → ℕ) where
   unfolding systemOf observed after
   run-step =
       record {
-        clock = ran-clock s;
+        clock = ran-clock (hasToken s) s;
         row = λ j l.
-            record { released = row-goes-on s f j l .released; last = row-goes-on s f j l .last; moves = moves-how j l (row-steps s f j l) };
+            record { released = row-goes-on (hasToken s) s f j l .released; last = row-goes-on (hasToken s) s f j l .last; moves = moves-how j l (row-steps (hasToken s) s f j l) };
       }

@@ -7,7 +7,7 @@ use Rattle.sheet.specs.declared.Set.{Set}
 use Rattle.analysis.specs.Examples as analysis
 use Rattle.analysis.specs.Examples.{analysedA, analysedB, analysedC, analysedC6, analysedJ, analysedE1, analysedE2, analysedE3, analysedEmpty}
 use Rattle.board.specs.States.{jobAt, startSet}
-use Rattle.promise.specs.Runs.{Call, release, tick, calls}
+use Rattle.runs.specs.Runs.{Call, release, tick, calls}
 
 pub record Example : Type 0 where
   pub analysis : analysis.Example

@@ -13,7 +13,7 @@ use Rattle.board.specs.declared.State.{State}
 use Rattle.board.specs.States.{rowAt, jobAt, standingAt, isAbsent, startSet}
 use Rattle.board.specs.Calls.{startOf, releaseOf}
 use Rattle.board.specs.Work.{workLeft}
-use Rattle.promise.specs.Runs.{Call, calls, ticksIn}
+use Rattle.runs.specs.Runs.{Call, calls, ticksIn}
 
 -- Row i is in time: what its live job has still to do ends within the bound after its release, no response was above the bound,
 -- and the bound is no later than the deadline.

@@ -1,0 +1,1 @@
+// No code: lists of calls on a board stand in specs/, and their laws in proofs/.
