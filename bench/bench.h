@@ -12,14 +12,14 @@ typedef u32 Calls(const u8 *sheet, usize length, u32 releases, u32 round, u32 ca
 /* Readings of one sheet. Answers a digest of what was read. */
 typedef u32 Readings(const u8 *sheet, usize length, u32 calls);
 
-/* Rattle's side, exported by crates/bench. */
+/* Rattle's side, exported by crates/bench and crates/bench_callers. In the second, release and tick are called at two places each. */
 Analysis bench_analyse;
-Calls bench_board;
+Calls bench_board, bench_callers;
 Readings bench_read;
 
-/* C's side; and the same analysis once more, which counts what it does. */
-Analysis plain_analyse, count_analyse;
-Calls plain_board;
+/* C's side, with an analysis that has no set beside the one that is handed a set by value, and one that counts what it does. */
+Analysis plain_analyse, sharp_analyse, count_analyse;
+Calls plain_board, plain_callers;
 Readings plain_read;
 extern u64 instances_worked, terms_worked;
 

@@ -1,5 +1,12 @@
-/* The board in plain C: the state by value into each call and out of it, and the shape checked in each call. */
+/* The board in plain C: the state by value into each call and out of it, and the shape checked in each call. It is compiled twice:
+   as it stands release and tick have one caller each, with TWO_CALLERS two. */
 #include "plain.h"
+
+#ifdef TWO_CALLERS
+#define make_calls plain_callers
+#else
+#define make_calls plain_board
+#endif
 
 enum { ABSENT, WAITING, MEMORY, COMPUTATION };
 typedef struct { u32 tag, left; } Standing;
@@ -106,22 +113,29 @@ static Released release(State s, usize row) {
   return (Released){s, {number, 0, 0}};
 }
 
-u32 plain_board(const u8 *sheet, usize length, u32 releases, u32 round, u32 calls) {
+/* The calls up to a number of them. */
+#define CALL_UP_TO(end)                                                                                                  \
+  for (; call < (end); call++) {                                                                                         \
+    u32 place = round ? call % round : call;                                                                             \
+    if (place < releases) {                                                                                              \
+      Released r = release(s, place);                                                                                    \
+      digest = mix(digest, r.answer.number);                                                                             \
+      s = r.state;                                                                                                       \
+    } else {                                                                                                             \
+      Ticked t = tick(s);                                                                                                \
+      digest = mix(mix(mix(digest, t.answer.refusal.number), t.answer.token), t.answer.completed);                       \
+      s = t.state;                                                                                                       \
+    }                                                                                                                    \
+  }
+
+u32 make_calls(const u8 *sheet, usize length, u32 releases, u32 round, u32 calls) {
   Reading started = read_sheet(sheet, length);
   State s = {.set = started.set};
-  u32 digest = started.refusal.number;
-  for (u32 call = 0; call < calls; call++) {
-    u32 place = round ? call % round : call;
-    if (place < releases) {
-      Released r = release(s, place);
-      digest = mix(digest, r.answer.number);
-      s = r.state;
-    } else {
-      Ticked t = tick(s);
-      digest = mix(mix(mix(digest, t.answer.refusal.number), t.answer.token), t.answer.completed);
-      s = t.state;
-    }
-  }
+  u32 digest = started.refusal.number, call = 0;
+#ifdef TWO_CALLERS
+  CALL_UP_TO(calls / 2)
+#endif
+  CALL_UP_TO(calls)
   digest = mix(digest, s.clock);
   for (usize i = 0; i < MOST_ROWS; i++) digest = mix(mix(mix(digest, s.jobs[i].last), s.jobs[i].worst), s.jobs[i].completed);
   return digest;

@@ -57,14 +57,16 @@ static u32 analysed(Analysis *analyse, const Work *work, u32 times) {
 
 static u32 plain_analysed(const Work *work, u32 times) { return analysed(plain_analyse, work, times); }
 static u32 bench_analysed(const Work *work, u32 times) { return analysed(bench_analyse, work, times); }
+static u32 sharp_analysed(const Work *work, u32 times) { return analysed(sharp_analyse, work, times); }
 
-static const Job analysis = {plain_analysed, bench_analysed};
+static const Job analysis = {plain_analysed, bench_analysed}, sharp_analysis = {sharp_analysed, bench_analysed};
 
 static void measure_analysis(const char *what, Work work) {
   instances_worked = terms_worked = 0;
   analysed(count_analyse, &work, 1);
   snprintf(name, sizeof name, "  %s: %lu instances, %lu terms", what, instances_worked, terms_worked);
   measure(name, &analysis, &work, 1);
+  measure("    beside C without a set", &sharp_analysis, &work, 1);
 }
 
 /* Periods in step with the number of rows: a quarter of the memory's time is taken. */
@@ -113,28 +115,30 @@ static u32 called(Calls *make, const Work *w, u32 times) {
 
 static u32 plain_called(const Work *work, u32 times) { return called(plain_board, work, times); }
 static u32 bench_called(const Work *work, u32 times) { return called(bench_board, work, times); }
+static u32 plain_called_twice(const Work *work, u32 times) { return called(plain_callers, work, times); }
+static u32 bench_called_twice(const Work *work, u32 times) { return called(bench_callers, work, times); }
 
-static const Job board = {plain_called, bench_called};
+static const Job one_caller = {plain_called, bench_called}, two_callers = {plain_called_twice, bench_called_twice};
 
-static void measure_calls(const char *what, Work work, u32 releases, u32 ticks, u32 calls) {
+static void measure_calls(const Job *board, const char *what, Work work, u32 releases, u32 ticks, u32 calls) {
   work.releases = releases, work.round = releases + ticks, work.calls = calls;
-  measure(what, &board, &work, calls);
+  measure(what, board, &work, calls);
 }
 
-static void ticks(void) {
-  heading("ticks");
-  measure_calls("  example A, 12 to a round", two_rows(1, 1, 4, 2, 3, 12), 2, 12, CALLS);
-  measure_calls("  two rows, a job always in hand", two_rows(100, 100, 600, 200, 300, 600), 2, 600, CALLS);
-  measure_calls("  32 rows on 8 processors, all busy", equal_rows(32, 20, 130, 700), 32, 700, CALLS);
-  measure_calls("  idle, two rows", two_rows(1, 1, 4, 2, 3, 12), 0, 1, CALLS);
-  measure_calls("  idle, 32 rows on 8 processors", equal_rows(32, 20, 130, 700), 0, 1, CALLS);
+static void ticks(const char *title, const Job *board) {
+  heading(title);
+  measure_calls(board, "  example A, 12 to a round", two_rows(1, 1, 4, 2, 3, 12), 2, 12, CALLS);
+  measure_calls(board, "  two rows, a job always in hand", two_rows(100, 100, 600, 200, 300, 600), 2, 600, CALLS);
+  measure_calls(board, "  32 rows on 8 processors, all busy", equal_rows(32, 20, 130, 700), 32, 700, CALLS);
+  measure_calls(board, "  idle, two rows", two_rows(1, 1, 4, 2, 3, 12), 0, 1, CALLS);
+  measure_calls(board, "  idle, 32 rows on 8 processors", equal_rows(32, 20, 130, 700), 0, 1, CALLS);
 }
 
-static void ticks_by_rows(void) {
-  heading("ticks, by rows, all busy");
+static void ticks_by_rows(const char *title, const Job *board) {
+  heading(title);
   for (usize n = 1; n <= MOST_ROWS; n *= 2) {
     snprintf(name, sizeof name, "  %lu", n);
-    measure_calls(name, equal_rows(n, 20, 130, 700), n, 700, CALLS);
+    measure_calls(board, name, equal_rows(n, 20, 130, 700), n, 700, CALLS);
   }
 }
 
@@ -142,16 +146,16 @@ static void ticks_by_number(void) {
   heading("calls, by their number: 8 rows, 700 ticks to a round");
   for (u32 calls = 1000; calls <= 64000; calls *= 2) {
     snprintf(name, sizeof name, "  %u", calls);
-    measure_calls(name, equal_rows(8, 20, 130, 700), 8, 700, calls);
+    measure_calls(&one_caller, name, equal_rows(8, 20, 130, 700), 8, 700, calls);
   }
 }
 
-static void releases(void) {
-  heading("releases");
-  measure_calls("  two rows, all taken", equal_rows(2, 0, 1, 1), 2, 1, CALLS);
-  measure_calls("  32 rows on 8 processors, all taken", equal_rows(32, 0, 1, 4), 32, 4, CALLS);
-  measure_calls("  two rows, refused as too early", equal_rows(2, 0, 1, 1), 2, 0, CALLS);
-  measure_calls("  32 rows on 8 processors, refused as too early", equal_rows(32, 0, 1, 4), 32, 0, CALLS);
+static void releases(const char *title, const Job *board) {
+  heading(title);
+  measure_calls(board, "  two rows, all taken", equal_rows(2, 0, 1, 1), 2, 1, CALLS);
+  measure_calls(board, "  32 rows on 8 processors, all taken", equal_rows(32, 0, 1, 4), 32, 4, CALLS);
+  measure_calls(board, "  two rows, refused as too early", equal_rows(2, 0, 1, 1), 2, 0, CALLS);
+  measure_calls(board, "  32 rows on 8 processors, refused as too early", equal_rows(32, 0, 1, 4), 32, 0, CALLS);
 }
 
 /* ---- readings */
@@ -179,10 +183,13 @@ int main(int words, char **word) {
   only_check = words == 2 && !strcmp(word[1], "check");
   analysis_by_rows();
   analysis_by_instances();
-  ticks();
-  ticks_by_rows();
+  ticks("ticks, one caller", &one_caller);
+  ticks("ticks, two callers", &two_callers);
+  ticks_by_rows("ticks, by rows, all busy, one caller", &one_caller);
+  ticks_by_rows("ticks, by rows, all busy, two callers", &two_callers);
   ticks_by_number();
-  releases();
+  releases("releases, one caller", &one_caller);
+  releases("releases, two callers", &two_callers);
   readings();
   printf("%sbench: %u cases, %u failed\n", only_check ? "" : "\n", tried, failed);
   return failed != 0;

@@ -1,25 +1,17 @@
 /* Reading in plain C: each record is checked and stored in turn, and the set comes back by value. */
 #include "plain.h"
 
-enum { VERSION_READ = 1, HEADER_BYTES = 5, RECORD_BYTES = 18, PART_BYTES = 17 };
-
-static u32 word(const u8 *b) { return (u32)b[0] << 24 | (u32)b[1] << 16 | (u32)b[2] << 8 | b[3]; }
-
 static Reading refused(u8 number, usize row) { return (Reading){.refusal = {number, row, 0}}; }
 
 Reading read_sheet(const u8 *sheet, usize length) {
-  if (length < HEADER_BYTES) return refused(CUT, 0);
-  if (sheet[0] != VERSION_READ) return refused(VERSION, 0);
-  usize stated = (usize)sheet[1] << 8 | sheet[2], count = sheet[4];
-  if (stated != length || stated != HEADER_BYTES + RECORD_BYTES * count) return refused(LENGTH, 0);
-  if (sheet[3] < 1 || sheet[3] > MOST_PROCESSORS || count > MOST_ROWS) return refused(COUNTS, 0);
+  u8 fault = header_fault(sheet, length);
+  if (fault) return refused(fault, 0);
+  usize count = sheet[4];
   Reading reading = {.set = {.processors = sheet[3], .count = count}};
   u32 before = 0;
   for (usize i = 0; i < count; i++) {
-    const u8 *b = sheet + HEADER_BYTES + RECORD_BYTES * i;
-    if (b[0] != PART_BYTES) return refused(RECORD, i);
-    Row row = {b[1], word(b + 2), word(b + 6), word(b + 10), word(b + 14)};
-    u8 fault = row_fault(sheet[3], before, &row);
+    Row row;
+    fault = take_row(sheet, i, before, &row);
     if (fault) return refused(fault, i);
     reading.set.rows[i] = row;
     before = row.processor;

@@ -1,5 +1,5 @@
 -- How far the contracts reach: two results that meet one are equal, and two runs of the analysis leave the same in every lent
--- place.
+-- place. The calls' contract is also that of the crate bench_callers.
 use mathlib.Core.Path.{_≡_, sym, _∙_}
 use mathlib.Core.List.{List}
 use Prim.Native.Nat.{ℕ}

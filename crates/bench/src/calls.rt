@@ -19,7 +19,7 @@ fn token_number(token: Token) -> u32
     }
 }
 
-fn beat_mixed(digest: u32, beat: Beat) -> u32
+pub fn beat_mixed(digest: u32, beat: Beat) -> u32
     ensures { λ r. ⌜ r ≡ mixBeat digest beat ⌝ }
 {
     let refusal = beat.refusal;
@@ -37,7 +37,7 @@ fn job_mixed(digest: u32, job: Job) -> u32
     mixed(answered, job.completed)
 }
 
-fn state_mixed(digest: u32, s: State) -> u32
+pub fn state_mixed(digest: u32, s: State) -> u32
     ensures { λ r. ⌜ r ≡ mixJobs digest s mostRows ⌝ }
 {
     let mut sum = mixed(digest, s.clock);
@@ -51,7 +51,7 @@ fn state_mixed(digest: u32, s: State) -> u32
 }
 
 // Where a call stands in its round. A round of no calls is one round without end.
-fn place_in(round: u32, call: u32) -> u32
+pub fn place_in(round: u32, call: u32) -> u32
     ensures { λ r. ⌜ r ≡ call % round ⌝ }
 {
     if round == 0 { call } else { call % round }

@@ -11,7 +11,7 @@ fn wide(x: u32) -> u64
     x as u64
 }
 
-pub fn low(x: usize) -> u32
+pub(crate) fn low(x: usize) -> u32
     ensures { λ r. ⌜ r ≡ x % digests ⌝ }
 {
     (x % 4294967296) as u32

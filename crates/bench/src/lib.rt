@@ -1,5 +1,5 @@
 // The proved calls, exported so that a program in C can time them. A slice goes as a pointer and a length.
 pub mod analyses;
 pub mod calls;
-mod digest;
+pub mod digest;
 pub mod readings;
