@@ -12,7 +12,7 @@ typedef u32 Calls(const u8 *sheet, usize length, u32 releases, u32 round, u32 ca
 /* Readings of one sheet. Answers a digest of what was read. */
 typedef u32 Readings(const u8 *sheet, usize length, u32 calls);
 
-/* Rattle's side, exported by crates/bench and crates/bench_callers. In the second, release and tick are called at two places each. */
+/* Rattle's side, exported by crates/bench_c and crates/bench_callers. In the second, release and tick are called at two places each. */
 Analysis bench_analyse;
 Calls bench_board, bench_callers;
 Readings bench_read;

@@ -31,9 +31,9 @@ some_share (suc k) t w h p = omega (arith, suc-mul k w)
 
 -- An instance with a start ends its memory phase at least m after it.
 module _ (k : Equations) (rising : Rising k) (q : ℕ) where
-  pub end_after_lem : (s g : ℕ) → least (start_at k q) 0 limit ≡ At s → least (end_at k q s) 0 limit ≡ At g → s + k.memory ≤ g
+  pub end_after : (s g : ℕ) → least (start_at k q) 0 limit ≡ At s → least (end_at k q s) 0 limit ≡ At g → s + k.memory ≤ g
   unfolding start_at end_at
-  end_after_lem s g a b = go (dec_le (s + k.memory) g)
+  end_after s g a b = go (dec_le (s + k.memory) g)
     where
       go : Dec (s + k.memory ≤ g) → s + k.memory ≤ g
       go (yes h) = h
@@ -150,7 +150,7 @@ module _ (k : Equations) (lawful : Lawful k) where
             ends = end_found;
             released = start_after (start k q) start_found;
             start_by = start_by;
-            memory_after = end_after_lem k lawful.rising q (start k q) (memory_end k q) start_found end_found;
+            memory_after = end_after k lawful.rising q (start k q) (memory_end k q) start_found end_found;
             finish_by = finish_by;
           }
 

@@ -1,5 +1,5 @@
 -- The bounds of a set: B and the sums of each row's equations, and the rows worked in sheet order.
-use Rattle.std.specs.Prelude.{ℕ, zero, suc, ◌+◌, ◌-◌, ◌*◌, ◌/◌, Bool, true, false, ◌&&◌, List, [], ◌∷◌, ◌++◌, ltb, eqb, get_or}
+use Rattle.std.specs.Prelude.{ℕ, zero, suc, ◌+◌, ◌-◌, ◌*◌, ◌/◌, Bool, ◌&&◌, List, [], ◌∷◌, ◌++◌, ltb, eqb, get_or}
 use Rattle.laws.specs.Choice.{pick}
 use Rattle.laws.specs.Rounding.{up}
 use Rattle.laws.specs.Sums.{max_to}

@@ -135,6 +135,6 @@ pub record Answers (set : Set) (refusal : Refusal) (bounds : List ℕ) : Type 0 
   pub bounds_are : refusal.number ≡ 0 → analyse_set set ≡ Accepted (take set.count bounds)
   pub long : length bounds ≡ own
 
--- What the analysis needs of a reading: where it is accepted, its set is well_formed.
+-- What the analysis needs of a reading: where it is accepted, its set is well-formed.
 abbrev pub WellRead : Reading → Type 0
 WellRead reading = reading.refusal.number ≡ 0 → WellFormed reading.set

@@ -1,5 +1,7 @@
 // The response-time analysis: a row's bound from the few numbers that its sums need, the rows of a set in order, and the
 // call on a sheet and a lent buffer.
+#![tactic(auto)]
+
 ghost use Rattle.std.specs.Prelude.{◌≡◌, ◌++◌, max, ◌+◌, ◌*◌, ◌/◌, ◌≤◌, eqb, length, take, drop};
 ghost use Rattle.laws.specs.Choice.{pick};
 ghost use Rattle.laws.specs.declared.Found.TheVariants.{At};
@@ -17,7 +19,7 @@ const OWN: usize = 32;
 const LIMIT: u64 = 4000000;
 
 // What a row comes to: no busy length within the limit, an instance that passes the deadline, or the row's bound.
-#[derive(Drop)]
+#[derive(Clone, Copy)]
 pub enum Verdict {
     Busy,
     Late(u32),
@@ -25,7 +27,7 @@ pub enum Verdict {
 }
 
 // The least solution of an equation, and what of it is work of the own processor.
-#[derive(Drop)]
+#[derive(Clone, Copy)]
 pub struct Solved {
     pub at: u32,
     pub work: u64,
@@ -300,7 +302,7 @@ fn hold(
 }
 
 // The refusal of a set, and the bounds of its rows.
-#[derive(Drop)]
+#[derive(Clone, Copy)]
 pub struct Answer {
     pub refusal: sheet::Refusal,
     pub bounds: [u32; 32],

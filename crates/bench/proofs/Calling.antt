@@ -1,10 +1,9 @@
 -- One call more, as the loop makes it.
-use Prim.Native.Nat.{ℕ, suc, ◌+◌, ◌%◌, ◌≤◌, ◌<◌}
-use mathlib.Core.Path.{◌≡◌, ◌∙◌, sym, ap, subst}
+use Prim.Native.Nat.{ℕ, ◌+◌, ◌%◌, ◌≤◌, ◌<◌}
+use mathlib.Core.Path.{◌≡◌, ◌∙◌, sym}
 use native.Mathlib.Numerals.{add-one}
 use borrow.Author.Tests.{lt-ltb, le-ltb}
 use Rattle.laws.specs.ChoiceLaws.{pick_true, pick_false}
-use Rattle.board.specs.declared.State.{State}
 use Rattle.board.specs.declared.Released.{Released}
 use Rattle.board.specs.declared.Ticked.{Ticked}
 use Rattle.board.specs.Calls.{release_of, tick_of}

@@ -1,5 +1,5 @@
 -- How far the contracts reach: two results that meet one are equal, and two runs of the analysis leave the same in every lent
--- place. The calls' contract is also that of the crate bench_callers.
+-- place. The exports of the crate bench_c state the same contracts, and the crate bench_callers that of the calls.
 use mathlib.Core.Path.{◌≡◌, sym, ◌∙◌}
 use mathlib.Core.List.{List}
 use Prim.Native.Nat.{ℕ}

@@ -2,8 +2,7 @@
 ghost use Rattle.std.specs.Prelude.{◌≡◌, length};
 ghost use Rattle.analysis.specs.Analysis.{analyse_refusal, analysed};
 
-#[unsafe(no_mangle)]
-pub extern "C" fn bench_analyse(
+pub fn bench_analyse(
     sheet: &[u8],
     bounds: &mut [u32],
     number: &mut u8,

@@ -54,8 +54,7 @@ pub fn place_in(round: u32, call: u32) -> u32
     if round == 0 { call } else { call % round }
 }
 
-#[unsafe(no_mangle)]
-pub extern "C" fn bench_board(sheet: &[u8], releases: u32, round: u32, calls: u32) -> u32
+pub fn bench_board(sheet: &[u8], releases: u32, round: u32, calls: u32) -> u32
     ensures { result ≡ outcome (with_calls releases round calls (begin sheet.now)) }
 {
     let started = board::start(sheet);

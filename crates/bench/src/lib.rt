@@ -1,4 +1,6 @@
-// The proved calls, exported so that a program in C can time them. A slice goes as a pointer and a length.
+// The proved calls that the benchmark times. The crate bench_c exports them to C.
+#![tactic(auto)]
+
 pub mod analyses;
 pub mod calls;
 pub mod digest;

@@ -54,8 +54,7 @@ fn rows_mixed(digest: u32, set: Set) -> u32
     sum
 }
 
-#[unsafe(no_mangle)]
-pub extern "C" fn bench_read(sheet: &[u8], calls: u32) -> u32
+pub fn bench_read(sheet: &[u8], calls: u32) -> u32
     ensures { result ≡ readings_outcome sheet.now calls }
 {
     let mut reading = sheet::read(sheet);

@@ -1,5 +1,7 @@
 // The calls of the crate bench once more, each made at two places: a call with one caller is put in its place by the compiler,
 // and a program with several pays for what is handed over.
+#![tactic(auto)]
+
 ghost use Rattle.std.specs.Prelude.{◌≡◌};
 ghost use Rattle.bench.specs.Calls.{with_calls, begin, outcome};
 

@@ -2,7 +2,7 @@
 use Prim.Native.Nat.{ℕ, ◌+◌, ◌-◌, ◌≤◌, ◌<◌}
 use mathlib.Core.Path.{◌≡◌, refl, sym, ap, ◌∙◌}
 use mathlib.Core.Bool.{Bool, true, false, ◌&&◌}
-use mathlib.Core.List.{List, []}
+use mathlib.Core.List.{List}
 use borrow.Author.Tests.{lt-ltb, le-ltb, lt-leb, le-leb, eq-eqb, ne_eqb}
 use native.Mathlib.Omega.{arith}
 use native.Mathlib.Decide.{ℕ_discrete, dec_lt}
@@ -11,12 +11,11 @@ use lib.Seq.{ext_get_or, get_or-set_same, get_or-set_other}
 use lib.Dec.{eqb, ltb}
 use Rattle.laws.specs.Choice.{pick, first_of}
 use Rattle.laws.specs.TabulateLaws.{set_tab}
-use Rattle.sheet.specs.Refusals.{STATE, ROW, CLOCK, refused, accepted, accepts}
+use Rattle.sheet.specs.Refusals.{STATE, ROW, refused, accepted}
 use Rattle.sheet.specs.Ranges.{most_rows, zero_set}
 use Rattle.sheet.specs.declared.Reading.{Reading}
 use Rattle.board.specs.declared.Job.{Job}
 use Rattle.board.specs.declared.State.{State}
-use Rattle.board.specs.declared.Started.{Started}
 use Rattle.board.specs.States.{no_job, row_at, job_at, start_set, zero_state}
 use Rattle.board.specs.Shape.{shape_ok}
 use Rattle.board.specs.Calls.{start_reading, is_early, release_table, release_number, waiting_from, released, release_of}

@@ -6,7 +6,7 @@ use native.Mathlib.Omega.{arith}
 use native.Mathlib.Decide.{dec_lt}
 use native.Mathlib.Numerals.{add-one}
 use lib.ListN.{get_or}
-use lib.Dec.{ltb, leb, eqb}
+use lib.Dec.{ltb, eqb}
 use borrow.Author.Tests.{ltb-true, leb-true, eqb-true, lt-ltb, le-ltb, le-leb, eq-eqb}
 use Rattle.laws.specs.Search.{all_from, all}
 use Rattle.laws.specs.SearchLaws.{all_at, all_of, all_more, all_stays}
@@ -20,8 +20,8 @@ use Rattle.sheet.proofs.WritingLaws as writing
 use Rattle.board.specs.declared.State.{State}
 use Rattle.board.specs.declared.Hand.{Hand}
 use Rattle.board.specs.declared.Hand.TheVariants.{Free, Holds}
-use Rattle.board.specs.States.{most_clock, free_place, row_at, job_at, hand_at, processor_at, holds}
-use Rattle.board.specs.Shape.{set_passes, row_is_zero, job_is_zero, job_fits, row_fits, hand_fits, shape_ok}
+use Rattle.board.specs.States.{free_place, row_at, job_at, hand_at, processor_at}
+use Rattle.board.specs.Shape.{set_passes, row_fits, hand_fits, shape_ok}
 use Rattle.board.specs.Parts.{row_or, hand_is_own, head_fits, part_fits, part_is_zero}
 
 -- A set without a fault passes.
@@ -29,7 +29,7 @@ set_passes_lem : (set : Set) → faults.Counts set.processors set.count → ((i 
 unfolding set_refusal
 set_passes_lem set c r =
     ap (λ (x : Refusal). x.number)
-    (faults.or_second _ (first_fault (set_row_fault set) set.count) (faults.counts_clear _ _ c) ∙ faults.no_fault_lem (set_row_fault set) set.count r)
+    (faults.or_second _ (first_fault (set_row_fault set) set.count) (faults.counts_clear _ _ c) ∙ faults.no_fault (set_row_fault set) set.count r)
 
 module _ (s : State) where
   -- The tests: of the head, of row i with the hand of its processor, and of processor p's hand. The code reads places and rows at

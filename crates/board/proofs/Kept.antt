@@ -1,7 +1,7 @@
 -- The calls keep the shape, and refused calls change nothing.
 use mathlib.Core.Path.{◌≡◌, refl, sym, ap, subst, ◌∙◌}
 use mathlib.Core.Bool.{Bool, true, false, ◌&&◌}
-use Prim.Native.Nat.{ℕ, ◌+◌, ◌-◌, ◌≤◌, ◌<◌}
+use Prim.Native.Nat.{ℕ, ◌+◌, ◌≤◌, ◌<◌}
 use native.Mathlib.Omega.{arith}
 use native.Mathlib.Decide.{ℕ_discrete}
 use lib.Dec.{ltb}
@@ -101,7 +101,7 @@ release_keeps s i m =
         (subst (Kept s.clock (row_at s i) (in_hand s i)) (sym (released_job s i (most i m.below))) (waiting_kept s i m))
     row k l (no d) = subst (Kept s.clock (row_at s k) (in_hand s k)) (sym (released_other s i k (most k l) d)) (f.row k l)
 
--- A fresh start over a well_formed set.
+-- A fresh start over a well-formed set.
 pub start_keeps : (set : Set) → WellFormed set → Shaped (start_set set)
 start_keeps set w =
     record {

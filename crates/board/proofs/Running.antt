@@ -23,7 +23,7 @@ use Rattle.board.specs.Rules.{stand_as, in_memory, token_at, has_token, computes
 use Rattle.board.specs.Work.{work_left, memory_left, live_jobs}
 use Rattle.board.proofs.ShapeFacts.{Stands, Kept, OwnHand, Shaped, set_well_formed, absent_facts}
 use Rattle.board.proofs.Pointwise.{ran_job, ran_hand}
-use Rattle.board.proofs.Taking.{held_is, not_held, processor_most}
+use Rattle.board.proofs.Taking.{held_is, processor_most}
 
 -- A standing one step on. It rests where it isn't in hand,
 pub record Rests (row : Row) (token held : Bool) (before after : Standing) : Type 0 where
@@ -33,15 +33,15 @@ pub record Rests (row : Row) (token held : Bool) (before after : Standing) : Typ
 
 -- it stands in memory without the token,
 pub record Stalls (row : Row) (token held : Bool) (before after : Standing) : Type 0 where
-  pub in_hand_lem : held ≡ true
-  pub in_memory_lem : is_memory before ≡ true
+  pub in_hand : held ≡ true
+  pub in_memory : is_memory before ≡ true
   pub no_token : token ≡ false
   pub same : after ≡ before
   pub goes_on : finishes row token before ≡ false
 
 -- or it works: one tick less is left, of memory first; with none left it is absent.
 pub record Works (row : Row) (token held : Bool) (before after : Standing) : Type 0 where
-  pub in_hand_lem : held ≡ true
+  pub in_hand : held ≡ true
   pub live : is_absent before ≡ false
   pub with_token : is_memory before ≡ true → token ≡ true
   pub work : work_left row before ≡ work_left row after + 1
@@ -72,7 +72,7 @@ step_how row token held Waiting h = rests (record { not_held = h; same = refl; g
 step_how row token held (Computation left) h =
     let c = computes_how row (left - 1) (omega (arith, h)) in
     works (record {
-      in_hand_lem = h.0;
+      in_hand = h.0;
       live = refl;
       with_token = λ z. true_not_false _ z refl;
       work = omega (arith, c.work, h);
@@ -80,7 +80,7 @@ step_how row token held (Computation left) h =
       done = refl;
       stands = c.stands;
     })
-step_how row false held (Memory left) h = stalls (record { in_hand_lem = h.0; in_memory_lem = refl; no_token = refl; same = refl; goes_on = refl })
+step_how row false held (Memory left) h = stalls (record { in_hand = h.0; in_memory = refl; no_token = refl; same = refl; goes_on = refl })
 step_how row true held (Memory left) h = go (eqb (left - 1) 0) refl
   where
     go : (b : Bool) → eqb (left - 1) 0 ≡ b → StepHow row true held (Memory left) (steps row true (Memory left))
@@ -88,7 +88,7 @@ step_how row true held (Memory left) h = go (eqb (left - 1) 0) refl
         let c = computes_how row (computation_of row) (omega arith) in
         let q = eqb-true (left - 1) 0 e in
         works (record {
-          in_hand_lem = h.0;
+          in_hand = h.0;
           live = refl;
           with_token = λ z. refl;
           work = rw e (omega (arith, c.work, q, h));
@@ -98,7 +98,7 @@ step_how row true held (Memory left) h = go (eqb (left - 1) 0) refl
         })
     go false e =
         works (record {
-          in_hand_lem = h.0;
+          in_hand = h.0;
           live = refl;
           with_token = λ z. refl;
           work = rw e (omega (arith, h));
@@ -151,7 +151,7 @@ kept_on clock row token held job k = go (step_how row token held job.standing k.
           standing = refl;
         })
     worked w false e =
-        rw (w.done ∙ e, w.in_hand_lem)
+        rw (w.done ∙ e, w.in_hand)
         (record {
           last = omega (arith, k.last);
           worst = omega (arith, k.worst);
@@ -237,7 +237,7 @@ module _ (s : State) (f : Shaped s) where
     pub other : ℕ
     pub below : other < s.set.count
     pub over : processor_at s other < processor_at s i
-    pub in_memory_lem : is_memory (standing_at s other) ≡ true
+    pub in_memory : is_memory (standing_at s other) ≡ true
     pub token : has_token s other ≡ true
 
   in_hand_is : (i : ℕ) → i < s.set.count → is_memory (standing_at s i) ≡ true → hand_at s (processor_at s i) ≡ Holds i
@@ -277,7 +277,7 @@ module _ (s : State) (f : Shaped s) where
           above h =
               let k = memory_held q (r.passes (omega (arith, h, processor_most s f i l))) in
               let o : OwnHand s.set q (Holds k.0) = subst (OwnHand s.set q) k.1 (f.hand q (omega (arith, h, processor_most s f i l))) in
-              record { other = k.0; below = o.0; over = omega (arith, h, o.1); in_memory_lem = k.2; token = eq-eqb _ _ (o.1 ∙ sym e) }
+              record { other = k.0; below = o.0; over = omega (arith, h, o.1); in_memory = k.2; token = eq-eqb _ _ (o.1 ∙ sym e) }
 
           at : Dec (p < q) → Dec (p ≡ q) → TokenOver i
           at (yes h) d = true_not_false _ mine (r.none p (omega arith) h)

@@ -176,7 +176,7 @@ shape_of s f =
     (both _ _ (both _ _ (eq-eqb _ _ f.set) (le-leb _ _ f.clock)) (all_of most_rows (row_fits s) (row_fits_lem s f)))
     (all_of most_processors (λ p. hand_fits s p (hand_at s p)) (λ p l. hand_fits_lem s p (hand_at s p) (f.hand p l)))
 
--- A state of the shape holds a well_formed set.
+-- A state of the shape holds a well-formed set.
 pub set_well_formed : (s : State) → Shaped s → WellFormed s.set
 unfolding set_row_fault row_fault
 set_well_formed s f =

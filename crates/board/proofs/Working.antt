@@ -124,8 +124,8 @@ running_works has s f i l = go (running.row_steps has s f i l)
 
     go : running.StepHow row (has i) (in_hand s i) st (steps row (has i) st) → work_done (ran_by has s) i ≡ work_done s i + bit (works_by has s i)
     go (running.rests r) = same false (resting row (has i) st (held false r.not_held)) (omega (arith, ap (work_left row) r.same))
-    go (running.stalls r) = same false (stalled (has i) st r.in_memory_lem ∙ r.no_token) (omega (arith, ap (work_left row) r.same))
-    go (running.works r) = same true (worked row (has i) st (held true r.in_hand_lem) r.with_token) r.work
+    go (running.stalls r) = same false (stalled (has i) st r.in_memory ∙ r.no_token) (omega (arith, ap (work_left row) r.same))
+    go (running.works r) = same true (worked row (has i) st (held true r.in_hand) r.with_token) r.work
 
 -- An accepted tick.
 pub tick_works : (s : State) → tick_number s ≡ 0 → (i : ℕ) → i < s.set.count → work_done (tick_of s).state i ≡ work_done s i + bit (works (taken s) i)
@@ -148,10 +148,10 @@ works_or_stands s f p i l e = go (running.row_steps (has_token s) s f i own.0)
 
     go : running.StepHow (row_at s i) (has_token s i) (in_hand s i) (standing_at s i) (steps (row_at s i) (has_token s i) (standing_at s i)) → (is_working (has_token s i) (standing_at s i) ≡ true) ⊎ running.TokenOver s f i
     go (running.rests r) = true_not_false _ held r.not_held
-    go (running.stalls r) = inr (running.token_over s f i own.0 r.in_memory_lem r.no_token)
+    go (running.stalls r) = inr (running.token_over s f i own.0 r.in_memory r.no_token)
     go (running.works r) = inl (worked (row_at s i) (has_token s i) (standing_at s i) (subst (λ (h : Bool). Stands (row_at s i) h (standing_at s i)) held (f.row i own.0).standing) r.with_token)
 
 -- The row with the token works.
 pub token_works : (s : State) (f : Shaped s) (i : ℕ) → (o : running.TokenOver s f i) → works s o.other ≡ true
 unfolding works_by
-token_works s f i o = stalled (has_token s o.other) (standing_at s o.other) o.in_memory_lem ∙ o.token
+token_works s f i o = stalled (has_token s o.other) (standing_at s o.other) o.in_memory ∙ o.token

@@ -1,5 +1,5 @@
 -- What the private functions compute. The calls' own definitions stand in Shape, Rules and Calls.
-use Rattle.std.specs.Prelude.{ℕ, ◌≤◌, ◌<◌, ◌≡◌, Bool, true, false, ◌&&◌, ltb, leb, eqb}
+use Rattle.std.specs.Prelude.{ℕ, ◌≤◌, ◌<◌, ◌≡◌, Bool, true, false, ◌&&◌, leb, eqb}
 use Rattle.laws.specs.Choice.{pick}
 use Rattle.sheet.specs.Ranges.{most_processors, most_rows, row_fault}
 use Rattle.sheet.specs.declared.Row.{Row}

@@ -1,4 +1,6 @@
 // The board, tick by tick: a state, and the calls that start it, release a row and make a tick.
+#![tactic(auto)]
+
 ghost use Rattle.std.specs.Prelude.{◌≡◌};
 ghost use Rattle.board.specs.States.{no_job, start_set, zero_state};
 ghost use Rattle.board.specs.Calls.{start_reading, start_of, release_of, tick_of};
@@ -12,7 +14,7 @@ mod shape;
 const MOST_CLOCK: u32 = 1000000000;
 
 // A job is waiting, in memory, in computation, or absent; in memory and in computation with the ticks left.
-#[derive(Drop)]
+#[derive(Clone, Copy)]
 pub enum Standing {
     Absent,
     Waiting,
@@ -21,7 +23,7 @@ pub enum Standing {
 }
 
 // What is kept for a row.
-#[derive(Drop)]
+#[derive(Clone, Copy)]
 pub struct Job {
     pub ever: bool,
     pub last: u32,
@@ -31,18 +33,18 @@ pub struct Job {
 }
 
 // The row in hand on a processor, or none.
-#[derive(Drop)]
+#[derive(Clone, Copy)]
 pub enum Hand {
     Free,
     Holds(u32),
 }
 
-#[derive(Drop)]
+#[derive(Clone, Copy)]
 pub struct Place {
     pub hand: Hand,
 }
 
-#[derive(Drop)]
+#[derive(Clone, Copy)]
 pub struct State {
     pub set: Set,
     pub clock: u32,
@@ -50,41 +52,41 @@ pub struct State {
     pub jobs: [Job; 32],
 }
 
-#[derive(Drop)]
+#[derive(Clone, Copy)]
 pub struct Started {
     pub state: State,
     pub refusal: Refusal,
 }
 
-#[derive(Drop)]
+#[derive(Clone, Copy)]
 pub struct Released {
     pub state: State,
     pub answer: Refusal,
 }
 
 // The processor that has the token in a tick, or none.
-#[derive(Drop)]
+#[derive(Clone, Copy)]
 pub enum Token {
     Nobody,
     Processor(u8),
 }
 
 // A tick's answer. Bit i of `completed` says that row i completed.
-#[derive(Drop)]
+#[derive(Clone, Copy)]
 pub struct Beat {
     pub refusal: Refusal,
     pub token: Token,
     pub completed: u32,
 }
 
-#[derive(Drop)]
+#[derive(Clone, Copy)]
 pub struct Ticked {
     pub state: State,
     pub answer: Beat,
 }
 
 // What a processor's turn leaves: the job, the place, whether it had the token, and whether the job is done.
-#[derive(Drop)]
+#[derive(Clone, Copy)]
 struct Turn {
     job: Job,
     place: Place,

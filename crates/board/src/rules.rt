@@ -116,6 +116,7 @@ fn finished_job(clock: u32, job: Job) -> Job
     }
 }
 
+// For `tick` alone, of a live job in a state of the shape, which is checked first: there no time of a job lies past the clock.
 pub(crate) fn turned(k: u32, row: Row, job: Job, free: bool, clock: u32) -> Turn
     requires { InTurn clock job }
     ensures { result ≡ turn_of k row job «free» clock }
@@ -178,6 +179,7 @@ pub(crate) fn released_job(clock: u32, job: Job) -> Job
     }
 }
 
+// For `release` alone, which has checked the shape first: in a state of the shape no release lies past the clock.
 pub(crate) fn release_number(clock: u32, period: u32, job: Job) -> u8
     requires { job.last ≤ clock }
     ensures { result ≡ first_of (release_table clock period job) }

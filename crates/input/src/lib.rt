@@ -1,22 +1,22 @@
 // The whole of standard input.
+#![tactic(auto)]
+
 ghost use Rattle.io.specs.Counts.{IsPrefixLen};
+
+use std::io::Read;
 
 // Reads standard input to its end, or until the buffer is full; the answer is how many bytes were read. Where a read
 // fails the input is unknown, so none of it counts: what came before may be half of it.
-pub fn read_input(buffer: &mut [u8]) -> usize
+pub fn read_input<R: Read>(input: &mut R, buffer: &mut [u8]) -> usize
     ensures { IsPrefixLen result buffer.new }
 {
     let mut at: usize = 0;
     while at < buffer.len() {
-        let got = libc::read(libc::STDIN_FILENO, &mut buffer[at..]);
-        if got < 0 {
-            return 0;
+        match input.read(&mut buffer[at..]) {
+            Ok(0) => return at,
+            Ok(more) => at += more,
+            Err(_) => return 0,
         }
-        let more = io::count(got, &buffer[at..]);
-        if more == 0 {
-            return at;
-        }
-        at += more;
     }
     at
 }

@@ -1,11 +1,14 @@
 // The list program: a sheet on standard input, the same as text on standard output, or its refusal there.
+#![tactic(auto)]
+
+use std::io::{Print, Result};
 
 // An input that fills these 65,536 bytes is longer than a sheet can state, however it goes on. Every text fits its buffer:
-// `list-fits` in the proofs of sheet_text shows it.
-fn main() {
-    let mut input = io::large_buffer();
-    let count = input::read_input(&mut input);
+// `list_fits` in the proofs of sheet_text shows it.
+fn main(rt: HostRuntime) -> Result<()> {
+    let mut sheet = io::large_buffer();
+    let count = input::read_input(&mut rt.stdin(), &mut sheet);
     let mut text = io::buffer();
-    let end = sheet_text::list(&input[..count], &mut text);
-    io::write_all(libc::STDOUT_FILENO, &text[..end]);
+    let end = sheet_text::list(&sheet[..count], &mut text);
+    rt.stdout().write_all(&text[..end])
 }

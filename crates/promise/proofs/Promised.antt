@@ -1,4 +1,4 @@
--- Demand 3 is shown: for every well_formed set that the analysis accepts, and for every sheet.
+-- Demand 3 is shown: for every well-formed set that the analysis accepts, and for every sheet.
 use mathlib.Core.Path.{◌≡◌, sym, ap, subst, ◌∙◌}
 use mathlib.Core.List.{List}
 use Prim.Native.Nat.{ℕ, ◌<◌}

@@ -1,4 +1,4 @@
--- The promises, for a well_formed set and bounds that the theory accepts.
+-- The promises, for a well-formed set and bounds that the theory accepts.
 use mathlib.Core.Path.{◌≡◌, refl, sym, ap, subst, ◌∙◌}
 use mathlib.Core.Bool.{false}
 use Prim.Native.Nat.{ℕ, ◌+◌, ◌≤◌, ◌<◌}

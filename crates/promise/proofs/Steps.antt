@@ -176,7 +176,7 @@ module _ (s : State) (f : Shaped s) (bound : ℕ → ℕ) where
       let row = row_at s j in
       let e = standing_after j l in
       theory.works (record {
-        before = some_in_hand row (standing_at s j) (stands_at s f j l true r.in_hand_lem);
+        before = some_in_hand row (standing_at s j) (stands_at s f j l true r.in_hand);
         after = rw (ran_set (has_token s) s, e) (all_in_hand row (after j) r.stands);
         work_left = rw (ran_set (has_token s) s, e) r.work;
         memory_left = rw (ran_set (has_token s) s, e) r.memory;
@@ -184,17 +184,17 @@ module _ (s : State) (f : Shaped s) (bound : ℕ → ℕ) where
   moves_how j l (stalls r) =
       let row = row_at s j in
       let e = standing_after j l ∙ r.same in
-      let o = token_over s f j l r.in_memory_lem r.no_token in
+      let o = token_over s f j l r.in_memory r.no_token in
       theory.stands (record {
-        before = some_in_hand row (standing_at s j) (stands_at s f j l true r.in_hand_lem);
+        before = some_in_hand row (standing_at s j) (stands_at s f j l true r.in_hand);
         after = rw (ran_set (has_token s) s) (ap (left_in_hand row) e);
-        in_memory_lem = memory_some row _ (standing_at s j) (f.row j l).standing r.in_memory_lem;
+        in_memory = memory_some row _ (standing_at s j) (f.row j l).standing r.in_memory;
         work_left = rw (ran_set (has_token s) s) (ap (work_left row) e);
         memory_left = rw (ran_set (has_token s) s) (ap (memory_left row) e);
         other = o.other;
         below = o.below;
         over = o.over;
-        token = fetched o.other o.below o.in_memory_lem o.token (row_steps (has_token s) s f o.other o.below);
+        token = fetched o.other o.below o.in_memory o.token (row_steps (has_token s) s f o.other o.below);
       })
     where
       -- The row that has the token loses a memory tick.

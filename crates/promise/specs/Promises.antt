@@ -41,7 +41,7 @@ pub record Promises (fresh : State) (bound : ℕ → ℕ) : Type 0 where
   pub complete : CompleteInTime fresh bound
   pub never_live : NeverLive fresh
 
--- Demand 3, for sets: whatever well_formed set the analysis accepts, with the bounds that it gives.
+-- Demand 3, for sets: whatever well-formed set the analysis accepts, with the bounds that it gives.
 abbrev pub PromisedOfSets : Type 0
 PromisedOfSets = (set : Set) (bounds : List ℕ) → WellFormed set → analyse_set set ≡ Accepted bounds → Promises (start_set set) (bound_in bounds)
 

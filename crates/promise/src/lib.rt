@@ -1,1 +1,2 @@
 // No code: what the analysis promises of the board stands in specs/, and its proof in proofs/.
+#![tactic(auto)]

@@ -1,4 +1,6 @@
 // What is printed for a sheet: its bounds, or the refusal.
+#![tactic(auto)]
+
 ghost use Rattle.std.specs.Prelude.{◌≤◌};
 ghost use Rattle.sheet.specs.Ranges.{most_rows, row_in};
 ghost use Rattle.text.specs.Lines.{lines_to};

@@ -23,7 +23,7 @@ read_determined sheet a b = same
 pub row_of_determined : (part : List ℕ) (a b : Row) → a ≡ row_of_part part → b ≡ row_of_part part → a ≡ b
 row_of_determined part a b = same
 
--- The place and the bytes of the part; the ghost name of a reference is fresh at each loan and is no part of the machine's value.
+-- The place and the bytes of the part, which are all that there is of a reference.
 pub show_determined : (sheet : Bor (List ℕ)) (r : ℕ) (a b : Bor (List ℕ)) → Shown sheet r a → Shown sheet r b → (a.ref_ptr ≡ b.ref_ptr) × (a.now ≡ b.now)
 show_determined sheet r a b p q = (same p.there q.there, same p.bytes q.bytes)
 

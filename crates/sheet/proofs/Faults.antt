@@ -56,8 +56,8 @@ module _ (fault : ℕ → ℕ) (n : ℕ) where
   clear_to h (suc k) l = rw add-one at (clear_more k (clear_to h k (omega arith)) (omega arith) (h k (omega arith)))
 
   -- No fault at any row: none is found; and the other way round.
-  pub no_fault_lem : ((i : ℕ) → i < n → fault i ≡ 0) → first_fault fault n ≡ accepted
-  no_fault_lem h = clear_all n (clear_to h n (omega arith)) (omega arith)
+  pub no_fault : ((i : ℕ) → i < n → fault i ≡ 0) → first_fault fault n ≡ accepted
+  no_fault h = clear_all n (clear_to h n (omega arith)) (omega arith)
 
   pub none_faulty : (first_fault fault n).number ≡ 0 → (i : ℕ) → i < n → fault i ≡ 0
   unfolding first_fault

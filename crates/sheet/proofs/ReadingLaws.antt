@@ -151,7 +151,7 @@ pub before_in : (s : List ℕ) (i : ℕ) → count_of s ≤ 32 → i < count_of 
 before_in s zero h l = refl
 before_in s (suc i) h l = ap (λ (r : Row). r.processor) (row_in_lem s i h (omega arith))
 
--- A sheet that reads says a well_formed set.
+-- A sheet that reads says a well-formed set.
 pub well_formed : (s : List ℕ) → (read_refusal s).number ≡ 0 → WellFormed (set_of s)
 unfolding set_of
 well_formed s h =

@@ -53,12 +53,12 @@ record_at f (suc n) i h = go (record_at f n i) (dec_lt i n)
         let k : length (records_of f n) ≡ 18 * i = omega (arith, writing.length_records f n) in
         ([], drop_at (records_of f n) (record_bytes (f n)) (18 * i) k ∙ ap (λ (j : ℕ). record_bytes (f j)) e)
 
--- The writer takes every well_formed set.
+-- The writer takes every well-formed set.
 pub well_formed_taken : (set : Set) → WellFormed set → set_refusal set ≡ accepted
 unfolding set_refusal set_row_fault
 well_formed_taken set w =
     faults.or_second _ _ (faults.counts_clear _ _ (record { some = w.processors_some; few = w.processors_most; rows = w.rows_most }))
-    ∙ faults.no_fault_lem (set_row_fault set) set.count (λ i l. faults.in_range_clear _ _ _ (w.row i l))
+    ∙ faults.no_fault (set_row_fault set) set.count (λ i l. faults.in_range_clear _ _ _ (w.row i l))
 
 -- The sheet that is written for a set that the writer takes.
 module _ (set : Set) (h : (set_refusal set).number ≡ 0) where

@@ -97,7 +97,7 @@ pub record InRange (N before : ℕ) (r : Row) : Type 0 where
   pub computation_most : computation_of r ≤ most_ticks
   pub length_some : 1 ≤ length_of r
 
--- A well_formed set: what a sheet that reads gives, and what a state of the stated shape holds.
+-- A well-formed set: what a sheet that reads gives, and what a state of the stated shape holds.
 pub record WellFormed (set : Set) : Type 0 where
   pub processors_some : 1 ≤ set.processors
   pub processors_most : set.processors ≤ most_processors

@@ -1,4 +1,6 @@
 // The sheet: read from bytes, one row shown, written to bytes.
+#![tactic(auto)]
+
 ghost use Rattle.std.specs.Prelude.{◌≡◌, ◌+◌, ◌<◌, ◌≤◌, length};
 ghost use Rattle.std.proofs.lemmas.List.Edits.{sets};
 ghost use Rattle.sheet.specs.Refusals.{refused};
@@ -24,7 +26,7 @@ const MOST_ROWS: usize = 32;
 
 const MOST_TICKS: u32 = 1000000;
 
-#[derive(Drop)]
+#[derive(Clone, Copy)]
 pub struct Row {
     pub processor: u8,
     pub memory: u32,
@@ -33,7 +35,7 @@ pub struct Row {
     pub deadline: u32,
 }
 
-#[derive(Drop)]
+#[derive(Clone, Copy)]
 pub struct Set {
     pub processors: u8,
     pub count: usize,
@@ -41,14 +43,14 @@ pub struct Set {
 }
 
 // What every call's answer carries: 0, 0, 0 where it is accepted.
-#[derive(Drop)]
+#[derive(Clone, Copy)]
 pub struct Refusal {
     pub number: u8,
     pub row: usize,
     pub instance: u32,
 }
 
-#[derive(Drop)]
+#[derive(Clone, Copy)]
 pub struct Reading {
     pub refusal: Refusal,
     pub set: Set,

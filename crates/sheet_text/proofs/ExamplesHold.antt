@@ -25,7 +25,7 @@ unfolding
 said =
     record {
       A = refl;
-      other_a_lem = refl;
+      other_a = refl;
       listed_a = refl;
       nothing = refl;
       number = refl;

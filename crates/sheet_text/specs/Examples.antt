@@ -19,7 +19,7 @@ said_to text = answer_line (compose_answer text 1024)
 
 pub record Said : Type 0 where
   pub A : composed text_a (replicate 41 0) ≡ sheet_a
-  pub other_a_lem : meaning_of other_a ≡ meant example_a
+  pub other_a : meaning_of other_a ≡ meant example_a
   pub listed_a : listed sheet_a ≡ text_a
   pub nothing : said_to (ascii "") ≡ ascii "refused line 1 column 1: processors expected\n"
   pub number : said_to (ascii "processors 2\n0 1 1 4 x\n") ≡ ascii "refused line 2 column 9: not a number\n"

@@ -1,4 +1,6 @@
 // Sheets as text: composed from lines of decimal numbers, and listed as such lines.
+#![tactic(auto)]
+
 ghost use Rattle.std.specs.Prelude.{true, ◌≡◌, ◌+◌, ◌<◌, ◌≤◌, length, drop};
 ghost use Rattle.sheet.specs.Refusals.{accepts};
 ghost use Rattle.sheet.specs.Ranges.{most_rows, row_in};
@@ -30,7 +32,7 @@ const MOST_WORD: u32 = 4294967295;
 const TOO_LARGE: u64 = 4294967296;
 
 // What parts a text: lines, comments, words and what lies between words.
-#[derive(Drop)]
+#[derive(Clone, Copy)]
 pub enum Mark {
     Newline,
     Hash,
@@ -39,21 +41,21 @@ pub enum Mark {
 }
 
 // A fault of a text and its place, both counted from 1; 0, 0, 0 where there is none.
-#[derive(Drop)]
+#[derive(Clone, Copy)]
 pub struct Fault {
     pub number: u8,
     pub line: usize,
     pub column: usize,
 }
 
-#[derive(Drop)]
+#[derive(Clone, Copy)]
 pub struct Number {
     pub fault: u8,
     pub value: u32,
 }
 
 // The next number of a line: the place of its word, or of its fault, and where the word ends.
-#[derive(Drop)]
+#[derive(Clone, Copy)]
 pub struct Field {
     pub fault: u8,
     pub place: usize,
@@ -61,20 +63,20 @@ pub struct Field {
     pub value: u32,
 }
 
-#[derive(Drop)]
+#[derive(Clone, Copy)]
 pub struct Numbers {
     pub fault: Fault,
     pub values: [u32; 5],
 }
 
-#[derive(Drop)]
+#[derive(Clone, Copy)]
 pub struct RowSaid {
     pub fault: Fault,
     pub row: Row,
 }
 
 // The first line of what is left: how far its content goes, where the next line begins, and whether it has a word.
-#[derive(Drop)]
+#[derive(Clone, Copy)]
 pub struct Cut {
     pub stop: usize,
     pub after: usize,
@@ -82,7 +84,7 @@ pub struct Cut {
 }
 
 // The next line with words: its content, where the line after it begins, and its number.
-#[derive(Drop)]
+#[derive(Clone, Copy)]
 pub struct Next {
     pub found: bool,
     pub start: usize,
@@ -91,14 +93,14 @@ pub struct Next {
     pub number: usize,
 }
 
-#[derive(Drop)]
+#[derive(Clone, Copy)]
 pub struct Meaning {
     pub fault: Fault,
     pub set: Set,
 }
 
 // The number of the refusal with its row or its line and column, and the length of the sheet; what does not apply is 0.
-#[derive(Drop)]
+#[derive(Clone, Copy)]
 pub struct Answer {
     pub number: u8,
     pub row: usize,

@@ -1,6 +1,6 @@
 -- A quoted text as bytes.
 use Rattle.std.specs.Prelude.{ℕ, List}
-use Prim.Native.Char.{Char, code}
+use Prim.Native.Char.{code}
 use Prim.Native.String.{String, [], ◌∷◌}
 use mathlib.Core.List as list
 

@@ -1,5 +1,7 @@
 // Text put into a lent buffer, piece by piece: each call takes the place where the text so far ends and answers the
 // place where it then ends. What no longer fits is left out.
+#![tactic(auto)]
+
 ghost use Rattle.std.specs.Prelude.{[], ◌∷◌, ◌++◌};
 ghost use Rattle.text.specs.Decimal.{decimal};
 ghost use Rattle.text.specs.Putting.{Puts};

@@ -9,7 +9,7 @@ use Rattle.laws.specs.SumsWhereLaws.{where_mono, where_plus, where_balance, wher
 use Rattle.theory.specs.System.{System, work, Above, Higher, above, higher, lower, sum_above, sum_higher, sum_lower}
 use Rattle.theory.specs.Snapshot.{Snapshot}
 use Rattle.theory.specs.Equations.{memory_within, interference, brought_before, brought_up_to, busy_demand, ahead, start_demand}
-use Rattle.theory.proofs.Ranks.{is_above, is_higher_lem, is_lower_lem}
+use Rattle.theory.proofs.Ranks.{is_above, is_higher, is_lower}
 use Rattle.theory.proofs.Orderly.{Orderly, orderly}
 use Rattle.theory.proofs.Done.{work_done, memory_done, memory_never}
 use Rattle.theory.proofs.Since.{Released, releases_up_to, releases_before, work_brought}
@@ -58,15 +58,15 @@ module _ (sys : System) (i : ℕ) (v : Level sys i) (u s : Snapshot) (x : ℕ) (
   blocking_account : sum_lower sys i u.in_hand ≤ B
   blocking_account =
       where_one (lower sys i) u.in_hand sys.rows B
-      (λ j p c. v.accepted.blocks u w.began j p (is_lower_lem sys i j c))
-      (λ j k p q c d g h. began.one j k p q ((is_lower_lem sys i j c).0 ∙ sym (is_lower_lem sys i k d).0) g h)
+      (λ j p c. v.accepted.blocks u w.began j p (is_lower sys i j c))
+      (λ j k p q c d g h. began.one j k p q ((is_lower sys i j c).0 ∙ sym (is_lower sys i k d).0) g h)
 
   lower_account : sum_lower sys i (work_done sys s) + sum_lower sys i s.in_hand ≤ sum_lower sys i (work_done sys u) + B
   lower_account =
       omega (
         arith,
         where_balance (lower sys i) (work_done sys s) s.in_hand (work_done sys u) u.in_hand sys.rows
-            (λ j p c. w.lower j p (is_lower_lem sys i j c)),
+            (λ j p c. w.lower j p (is_lower sys i j c)),
         blocking_account,
       )
 
@@ -81,7 +81,7 @@ module _ (sys : System) (i : ℕ) (v : Level sys i) (u s : Snapshot) (x : ℕ) (
         arith,
         above_account,
         where_balance (higher sys i) (work_done sys s) owed (work_done sys u) cap sys.rows
-            (λ j p c. highers j p (is_higher_lem sys i j c)),
+            (λ j p c. highers j p (is_higher sys i j c)),
         lower_account,
       )
 

@@ -44,7 +44,7 @@ pub record Ran (sys : System) (s t : Snapshot) (j : ℕ) : Type 0 where
   pub memory : memory_done sys s j ≤ memory_done sys t j
   pub memory_one : memory_done sys t j ≤ memory_done sys s j + 1
   pub left : t.work_left j ≤ s.work_left j
-  pub in_hand_lem : work_done sys t j + t.in_hand j ≤ work_done sys s j + s.in_hand j
+  pub in_hand : work_done sys t j + t.in_hand j ≤ work_done sys s j + s.in_hand j
 
 module _ (sys : System) where
   -- Between two snapshots with k releases of row j: done and left grow by what the releases bring.
@@ -105,8 +105,8 @@ module _ (sys : System) where
   ran {s} {t} x a b k p = go (traded k (a.row k p) (b.row k p) (x.row k p).released) (x.row k p).moves
     where
       go : Traded sys s t k → Moves sys s t k → Ran sys s t k
-      go f (rests m) = record { work = omega arith; memory = omega arith; memory_one = omega arith; left = omega arith; in_hand_lem = omega arith }
-      go f (stands m) = record { work = omega arith; memory = omega arith; memory_one = omega arith; left = omega arith; in_hand_lem = omega arith }
+      go f (rests m) = record { work = omega arith; memory = omega arith; memory_one = omega arith; left = omega arith; in_hand = omega arith }
+      go f (stands m) = record { work = omega arith; memory = omega arith; memory_one = omega arith; left = omega arith; in_hand = omega arith }
       go f (works m) =
-          let h = (a.row k p).in_hand_lem m.before in
-          record { work = omega arith; memory = omega arith; memory_one = omega arith; left = omega arith; in_hand_lem = omega arith }
+          let h = (a.row k p).in_hand m.before in
+          record { work = omega arith; memory = omega arith; memory_one = omega arith; left = omega arith; in_hand = omega arith }

@@ -88,4 +88,4 @@ module _ (sys : System) (i : ℕ) (v : Level sys i) where
       go (inl z) =
           let begun = starts_in_time w.ticks q n (w.waiting q job.1 (omega arith) l) in
           omega (arith, after, n.finishes, (o.row i v.below).work_most)
-      go (inr p) = omega (arith, after, n.finishes, (w.in_hand_lem q job.1 p c).fits)
+      go (inr p) = omega (arith, after, n.finishes, (w.in_hand q job.1 p c).fits)

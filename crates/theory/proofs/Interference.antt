@@ -69,7 +69,7 @@ module _ (sys : System) (u s : Snapshot) (x j : ℕ) (h : Meets sys u s x j) whe
       -- Memory is carried in, from a job that ends within its bound: one job more, less the newest where it has as much still to do.
       beside : 1 ≤ u.memory_left j → (s.clock + u.memory_left j ≤ s.last j + sys.memory j) ⊎ (s.last j + sys.memory j < s.clock + u.memory_left j) → Bounded
       beside some short =
-          let carried : u.clock + (u.memory_left j + sys.computation j) ≤ u.last j + sys.bound j = omega (arith, h.in_time (omega arith), h.from.in_memory_lem some) in
+          let carried : u.clock + (u.memory_left j + sys.computation j) ≤ u.last j + sys.bound j = omega (arith, h.in_time (omega arith), h.from.in_memory some) in
           let spaced : u.last j + suc k * sys.period j ≤ s.last j = omega (arith, h.since.spaced_from (omega arith) (h.from.ever (omega arith)), ap (λ z. z * sys.period j) e) in
           ⊎_elim
           (λ c. by_jobs (suc k) (omega (arith, h.to.past ever)) (omega (arith, total, h.to.done ever)))

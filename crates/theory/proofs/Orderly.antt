@@ -17,8 +17,8 @@ pub record OrderlyRow (sys : System) (s : Snapshot) (j : ℕ) : Type 0 where
   pub memory_part : s.memory_left j ≤ s.work_left j
   pub hand_part : s.in_hand j ≤ s.work_left j
   pub waiting : s.in_hand j ≡ 0 → 1 ≤ s.work_left j → s.work_left j ≡ work sys j
-  pub in_hand_lem : 1 ≤ s.in_hand j → s.in_hand j ≡ s.work_left j
-  pub in_memory_lem : 1 ≤ s.memory_left j → s.work_left j ≡ s.memory_left j + sys.computation j
+  pub in_hand : 1 ≤ s.in_hand j → s.in_hand j ≡ s.work_left j
+  pub in_memory : 1 ≤ s.memory_left j → s.work_left j ≡ s.memory_left j + sys.computation j
   pub ever : 1 ≤ s.work_left j → 1 ≤ s.released j
   pub past : 1 ≤ s.released j → s.last j ≤ s.clock
   pub done : 1 ≤ s.released j → s.last j + sys.memory j ≤ s.clock + s.memory_left j
@@ -44,8 +44,8 @@ module _ (sys : System) where
             memory_part = omega arith;
             hand_part = omega arith;
             waiting = λ a b. omega arith;
-            in_hand_lem = λ a. omega arith;
-            in_memory_lem = λ a. omega arith;
+            in_hand = λ a. omega arith;
+            in_memory = λ a. omega arith;
             ever = λ a. omega arith;
             past = λ a. omega arith;
             done = λ a. omega arith;
@@ -60,8 +60,8 @@ module _ (sys : System) where
         memory_part = omega arith;
         hand_part = omega arith;
         waiting = λ a b. omega (arith, o.waiting (omega arith) (omega arith));
-        in_hand_lem = λ a. omega (arith, o.in_hand_lem (omega arith));
-        in_memory_lem = λ a. omega (arith, o.in_memory_lem (omega arith));
+        in_hand = λ a. omega (arith, o.in_hand (omega arith));
+        in_memory = λ a. omega (arith, o.in_memory (omega arith));
         ever = λ a. omega (arith, o.ever (omega arith));
         past = λ a. omega (arith, o.past (omega arith));
         done = λ a. omega (arith, o.done (omega arith));
@@ -77,8 +77,8 @@ module _ (sys : System) where
         memory_part = omega arith;
         hand_part = omega arith;
         waiting = λ a b. omega arith;
-        in_hand_lem = λ a. h;
-        in_memory_lem = λ a. omega (arith, o.in_memory_lem (omega arith));
+        in_hand = λ a. h;
+        in_memory = λ a. omega (arith, o.in_memory (omega arith));
         ever = λ a. omega (arith, o.ever (omega arith));
         past = λ a. omega (arith, o.past (omega arith));
         done = λ a. omega (arith, o.done (omega arith));
@@ -103,8 +103,8 @@ module _ (sys : System) where
             memory_part = omega arith;
             hand_part = omega arith;
             waiting = λ a b. omega arith;
-            in_hand_lem = λ a. omega arith;
-            in_memory_lem = λ a. omega arith;
+            in_hand = λ a. omega arith;
+            in_memory = λ a. omega arith;
             ever = λ a. omega arith;
             past = λ a. omega arith;
             done = λ a. omega arith;

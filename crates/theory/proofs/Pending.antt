@@ -10,7 +10,7 @@ use Rattle.laws.specs.SumsWhere.{sum_where}
 use Rattle.laws.specs.SumsWhereLaws.{where_mono, where_at, where_strict, where_some}
 use Rattle.theory.specs.System.{System, Above, Higher, above, higher, lower, sum_above}
 use Rattle.theory.specs.Snapshot.{Snapshot}
-use Rattle.theory.proofs.Ranks.{tests_above, is_higher_lem, tests_higher, tests_lower, no_zero, Order, before, same, after, order}
+use Rattle.theory.proofs.Ranks.{tests_above, is_higher, tests_higher, tests_lower, no_zero, Order, before, same, after, order}
 use Rattle.theory.proofs.Done.{work_done, memory_done}
 use Rattle.theory.proofs.Window.{pending, progress}
 
@@ -43,7 +43,7 @@ module _ (sys : System) (i : ℕ) (il : i < sys.rows) where
       go (inr p) = record { row = i; below = il; processor = refl; not_lower = le_refl i; live = p }
       go (inl z) =
           let r = where_some (higher sys i) s.work_left sys.rows (omega arith) in
-          let o = is_higher_lem sys i r.0 r.2 in
+          let o = is_higher sys i r.0 r.2 in
           record { row = r.0; below = r.1; processor = o.0; not_lower = omega arith; live = r.3 }
 
   pub pending_same : (s t : Snapshot) → ((j : ℕ) → j < sys.rows → t.work_left j ≡ s.work_left j) → pending sys i t ≡ pending sys i s

@@ -22,14 +22,14 @@ module _ (sys : System) (i j : ℕ) where
   pub tests_above : Above sys i j → above sys i j ≡ true
   tests_above = lt-ltb (sys.processor j) (sys.processor i)
 
-  pub is_higher_lem : higher sys i j ≡ true → Higher sys i j
-  is_higher_lem = ranked (sys.processor j) (sys.processor i) j i
+  pub is_higher : higher sys i j ≡ true → Higher sys i j
+  is_higher = ranked (sys.processor j) (sys.processor i) j i
 
   pub tests_higher : Higher sys i j → higher sys i j ≡ true
   tests_higher = ranks (sys.processor j) (sys.processor i) j i
 
-  pub is_lower_lem : lower sys i j ≡ true → Lower sys i j
-  is_lower_lem = ranked (sys.processor j) (sys.processor i) i j
+  pub is_lower : lower sys i j ≡ true → Lower sys i j
+  is_lower = ranked (sys.processor j) (sys.processor i) i j
 
   pub tests_lower : Lower sys i j → lower sys i j ≡ true
   tests_lower = ranks (sys.processor j) (sys.processor i) i j

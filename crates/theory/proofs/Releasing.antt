@@ -35,7 +35,7 @@ module _ (sys : System) (i : ℕ) (v : Level sys i) where
         short = v.accepted.busy_some;
         next = λ k e z f. omega arith;
         waiting = λ k e h l z f. omega arith;
-        in_hand_lem = λ k e h c. absurd (omega (arith, ((orderly sys r).row i v.below).hand_part, pending_own sys i v.below s));
+        in_hand = λ k e h c. absurd (omega (arith, ((orderly sys r).row i v.below).hand_part, pending_own sys i v.below s));
       }
 
   module _ (j : ℕ) (s t : Snapshot) (o : Orderly sys s) (n : Orderly sys t)
@@ -81,7 +81,7 @@ module _ (sys : System) (i : ℕ) (v : Level sys i) where
           short = w.short;
           next = next;
           waiting = λ q c h l. w.next q (omega (arith, count));
-          in_hand_lem = λ q c h counts. no_zero h (rw e r.in_hand);
+          in_hand = λ q c h counts. no_zero h (rw e r.in_hand);
         }
       where
         count : t.released i ≡ s.released i + 1
@@ -102,8 +102,8 @@ module _ (sys : System) (i : ℕ) (v : Level sys i) where
           short = w.short;
           next = λ k e. w.next k (omega arith);
           waiting = λ q e h l. w.waiting q (omega arith) (omega arith) (omega arith);
-          in_hand_lem = λ q e h counts.
-              let b = w.in_hand_lem q (omega arith) (omega arith) counts in
+          in_hand = λ q e h counts.
+              let b = w.in_hand q (omega arith) (omega arith) counts in
               record { higher = λ k p m. omega (arith, b.higher k p m, idle k p); fits = omega arith };
         }
 

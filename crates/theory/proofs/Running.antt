@@ -5,7 +5,7 @@ use mathlib.Core.Logic.{◌⊎◌, inl, inr}
 use native.Mathlib.Omega.{arith}
 use Rattle.laws.specs.RoundingLaws.{split}
 use Rattle.laws.specs.SumsWhereLaws.{where_at}
-use Rattle.theory.specs.System.{System, work, Higher, lower, sum_lower}
+use Rattle.theory.specs.System.{System, Higher, lower, sum_lower}
 use Rattle.theory.specs.Snapshot.{Snapshot}
 use Rattle.theory.specs.Steps.{Holder, AtWork, Moves, rests, works, stands, Stands, RunsRow, Runs}
 use Rattle.theory.specs.Equations.{brought_up_to, start_demand, memory_demand, busy_demand}
@@ -63,7 +63,7 @@ module _ (sys : System) (i : ℕ) (v : Level sys i) (s t : Snapshot) (o : Orderl
         since = λ k p.
             let r = h.row k p in
             since_on sys u s x k (w.span.since k p) t 1 r.released r.last (did k p).left (did k p).memory_one;
-        lower = λ k p l. omega (arith, w.span.lower k p l, (did k p).in_hand_lem);
+        lower = λ k p l. omega (arith, w.span.lower k p l, (did k p).in_hand);
         busy = omega (arith, more);
       }
 
@@ -141,14 +141,14 @@ module _ (sys : System) (i : ℕ) (v : Level sys i) (s t : Snapshot) (o : Orderl
     unfolding memory_demand
     stands_fits m =
         let b = was m.before in
-        let not_ended : x + 1 ≤ inst.memory_end = omega (arith, (o.row i v.below).in_memory_lem m.in_memory_lem) in
+        let not_ended : x + 1 ≤ inst.memory_end = omega (arith, (o.row i v.below).in_memory m.in_memory) in
         let account = account_in_hand sys i v u t (x + 1) n span q inst.start e (higher m.before) in
         omega (arith, inst.ends, interference_rises sys i not_ended)
 
-    in_hand_lem : 1 ≤ t.in_hand i → Moves sys s t i → InHand sys i inst u t (x + 1)
-    in_hand_lem l (rests m) = no_zero l m.after
-    in_hand_lem l (works m) = record { higher = higher m.before; fits = omega (arith, (was m.before).fits) }
-    in_hand_lem l (stands m) = record { higher = higher m.before; fits = stands_fits m }
+    in_hand : 1 ≤ t.in_hand i → Moves sys s t i → InHand sys i inst u t (x + 1)
+    in_hand l (rests m) = no_zero l m.after
+    in_hand l (works m) = record { higher = higher m.before; fits = omega (arith, (was m.before).fits) }
+    in_hand l (stands m) = record { higher = higher m.before; fits = stands_fits m }
 
   pub window_ran : 1 ≤ pending sys i t → Window sys i v.accepted t
   window_ran left =
@@ -159,6 +159,6 @@ module _ (sys : System) (i : ℕ) (v : Level sys i) (s t : Snapshot) (o : Orderl
         short = short left;
         next = λ k e. next k (omega (arith, own.released));
         waiting = λ q e z l. waiting q (omega (arith, own.released)) z l own.moves;
-        in_hand_lem = λ q e l c.
-            in_hand_lem q (v.accepted.instance q c) e (λ g. w.in_hand_lem q (omega (arith, own.released)) g c) l own.moves;
+        in_hand = λ q e l c.
+            in_hand q (v.accepted.instance q c) e (λ g. w.in_hand q (omega (arith, own.released)) g c) l own.moves;
       }

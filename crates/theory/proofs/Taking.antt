@@ -72,12 +72,12 @@ module _ (sys : System) (i : ℕ) (v : Level sys i) (s t : Snapshot) (o : Orderl
       higher : (k : ℕ) → k < sys.rows → Higher sys i k → work_done sys t k ≤ work_done sys u k + brought_up_to sys inst.start k
       higher k p l = omega (arith, idle k p, higher_up_to sys i v u s x o w.span k p l, brought_up_to_rises sys i begun.0 k)
 
-  in_hand_lem : (q : ℕ) (inst : Instance sys i B q) → Released u s i (suc q) → (1 ≤ s.in_hand i → InHand sys i inst u s x) → 1 ≤ t.in_hand i
+  in_hand : (q : ℕ) (inst : Instance sys i B q) → Released u s i (suc q) → (1 ≤ s.in_hand i → InHand sys i inst u s x) → 1 ≤ t.in_hand i
       → (t.in_hand i ≡ s.in_hand i) ⊎ Taken sys s t i → InHand sys i inst u t x
-  in_hand_lem q inst e was l (inl k) =
+  in_hand q inst e was l (inl k) =
       let b = was (omega arith) in
       record { higher = λ k p m. omega (arith, b.higher k p m, idle k p); fits = omega (arith, own.work_left) }
-  in_hand_lem q inst e was l (inr a) = taken q inst e a
+  in_hand q inst e was l (inr a) = taken q inst e a
 
   pub window_taken : Window sys i v.accepted t
   window_taken =
@@ -88,7 +88,7 @@ module _ (sys : System) (i : ℕ) (v : Level sys i) (s t : Snapshot) (o : Orderl
         short = w.short;
         next = λ k e. w.next k (omega (arith, own.released));
         waiting = λ q e z l. waiting q (omega (arith, own.released)) z (omega (arith, own.work_left)) own.hand;
-        in_hand_lem = λ q e l c.
+        in_hand = λ q e l c.
             let f : Released u s i (suc q) = omega (arith, own.released) in
-            in_hand_lem q (v.accepted.instance q c) f (λ h. w.in_hand_lem q f h c) l own.hand;
+            in_hand q (v.accepted.instance q c) f (λ h. w.in_hand q f h c) l own.hand;
       }

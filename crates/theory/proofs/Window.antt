@@ -79,5 +79,5 @@ pub record Window (sys : System) (i : ℕ) (a : AcceptedRow sys i) (s : Snapshot
   pub waiting : (q : ℕ) → Released opened s i (suc q) → s.in_hand i ≡ 0 → 1 ≤ s.work_left i
       → NotPast (start_demand sys i a.blocking q) ticks
   -- an instance in hand ends in time
-  pub in_hand_lem : (q : ℕ) → Released opened s i (suc q) → 1 ≤ s.in_hand i
+  pub in_hand : (q : ℕ) → Released opened s i (suc q) → 1 ≤ s.in_hand i
       → (c : q < up a.busy_length (sys.period i)) → InHand sys i (a.instance q c) opened s ticks

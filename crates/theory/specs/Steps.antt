@@ -72,7 +72,7 @@ pub record Works (s t : Snapshot) (j : ℕ) : Type 0 where
 pub record Stands (sys : System) (s t : Snapshot) (j : ℕ) : Type 0 where
   pub before : 1 ≤ s.in_hand j
   pub after : t.in_hand j ≡ s.in_hand j
-  pub in_memory_lem : 1 ≤ s.memory_left j
+  pub in_memory : 1 ≤ s.memory_left j
   pub work_left : t.work_left j ≡ s.work_left j
   pub memory_left : t.memory_left j ≡ s.memory_left j
   pub other : ℕ

@@ -12,11 +12,11 @@
 //   b              the state is what was last kept aside, or the fresh start
 // The digest goes over the start's refusal and state, and each call's answer and state; of n, over
 // all the answers and then the last state.
-use crate::{input, line, poke};
+use crate::{line, numbers, poke};
 use board::{Beat, Hand, Job, Place, Standing, State, Token};
 use sheet::Refusal;
 
-#[derive(Drop)]
+#[derive(Clone, Copy)]
 struct Play {
     state: State,
     kept: State,
@@ -53,7 +53,7 @@ fn mix_places(digest: u64, places: [Place; 8]) -> u64 {
     while p < 8 {
         let place = places[p];
         let hand = place.hand;
-        mixed = input::mix(mixed, number_of_hand(hand));
+        mixed = numbers::mix(mixed, number_of_hand(hand));
         p += 1;
     }
     mixed
@@ -65,11 +65,11 @@ fn number_of_bool(yes: bool) -> u64 {
 
 fn mix_job(digest: u64, job: Job) -> u64 {
     let standing = job.standing;
-    let digest = input::mix(digest, number_of_bool(job.ever));
-    let digest = input::mix(digest, job.last as u64);
-    let digest = input::mix(digest, number_of_standing(standing));
-    let digest = input::mix(digest, job.worst as u64);
-    input::mix(digest, job.completed as u64)
+    let digest = numbers::mix(digest, number_of_bool(job.ever));
+    let digest = numbers::mix(digest, job.last as u64);
+    let digest = numbers::mix(digest, number_of_standing(standing));
+    let digest = numbers::mix(digest, job.worst as u64);
+    numbers::mix(digest, job.completed as u64)
 }
 
 fn mix_jobs(digest: u64, jobs: [Job; 32]) -> u64 {
@@ -87,19 +87,19 @@ fn mix_state(digest: u64, state: State) -> u64 {
     let rows = set.rows;
     let places = state.places;
     let jobs = state.jobs;
-    let digest = input::mix(digest, set.processors as u64);
-    let digest = input::mix(digest, set.count as u64);
-    let digest = input::mix_rows(digest, rows);
-    let digest = input::mix(digest, state.clock as u64);
+    let digest = numbers::mix(digest, set.processors as u64);
+    let digest = numbers::mix(digest, set.count as u64);
+    let digest = numbers::mix_rows(digest, rows);
+    let digest = numbers::mix(digest, state.clock as u64);
     let digest = mix_places(digest, places);
     mix_jobs(digest, jobs)
 }
 
 fn mix_beat(digest: u64, beat: Beat) -> u64 {
     let token = beat.token;
-    let digest = input::mix_refusal(digest, beat.refusal);
-    let digest = input::mix(digest, number_of_token(token));
-    input::mix(digest, beat.completed as u64)
+    let digest = numbers::mix_refusal(digest, beat.refusal);
+    let digest = numbers::mix(digest, number_of_token(token));
+    numbers::mix(digest, beat.completed as u64)
 }
 
 fn put_beat(line: &mut [u8], end: usize, beat: Beat) -> usize {
@@ -141,7 +141,7 @@ fn release(line: &mut [u8], play: Play, row: usize, told: bool) -> Play {
     let after = released.state;
     let refusal = released.answer;
     play.state = after;
-    play.digest = input::mix_refusal(play.digest, refusal);
+    play.digest = numbers::mix_refusal(play.digest, refusal);
     if told {
         play.end = line::put_number(line, play.end, refusal.number as u64);
     }
@@ -172,9 +172,9 @@ fn go_back(play: Play) -> Play {
 
 fn set_field(play: Play, command: &[u8]) -> Play {
     let mut play = play;
-    let field = input::number_at(command, 1, 1);
-    let index = input::number_at(command, 2, 1) as usize;
-    let value = input::number_at(command, 3, 8);
+    let field = numbers::number_at(command, 1, 1);
+    let index = numbers::number_at(command, 2, 1) as usize;
+    let value = numbers::number_at(command, 3, 8);
     let state = play.state;
     let after = poke::poked(state, field, index, value);
     play.state = after;
@@ -184,9 +184,9 @@ fn set_field(play: Play, command: &[u8]) -> Play {
 fn carry_out(line: &mut [u8], play: Play, letter: u8, command: &[u8], told: bool) -> Play {
     match letter {
         b't' => called(tick(line, play, told)),
-        b'n' => called(ticks(line, play, input::number_at(command, 1, 2), told)),
-        b'r' => called(release(line, play, input::number_at(command, 1, 1) as usize, told)),
-        b'R' => called(release(line, play, input::number_at(command, 1, 8) as usize, told)),
+        b'n' => called(ticks(line, play, numbers::number_at(command, 1, 2), told)),
+        b'r' => called(release(line, play, numbers::number_at(command, 1, 1) as usize, told)),
+        b'R' => called(release(line, play, numbers::number_at(command, 1, 8) as usize, told)),
         b'p' => set_field(play, command),
         b'k' => keep(play),
         b'b' => go_back(play),
@@ -225,7 +225,7 @@ fn begin(end: usize, state: State, refusal: Refusal) -> Play {
     Play {
         state: state,
         kept: state,
-        digest: mix_state(input::mix_refusal(0, refusal), state),
+        digest: mix_state(numbers::mix_refusal(0, refusal), state),
         end: end,
     }
 }
@@ -234,7 +234,7 @@ pub fn put_play(line: &mut [u8], end: usize, case: &[u8], told: bool) -> usize {
     if case.len() < 2 {
         return end;
     }
-    let length = input::number_at(case, 0, 2) as usize;
+    let length = numbers::number_at(case, 0, 2) as usize;
     if length > case.len() - 2 {
         return end;
     }

@@ -4,7 +4,7 @@
 //   B  the same, and then all the places.
 ghost use Rattle.std.specs.Prelude.{◌≡◌, length};
 
-use crate::{input, line};
+use crate::{line, numbers};
 
 // The places lent are the first of these.
 fn all_places() -> [u32; 64]
@@ -25,7 +25,7 @@ fn digest_of_places(places: &[u32]) -> u64 {
     let mut digest: u64 = 0;
     let mut i = 0;
     while i < places.len() {
-        digest = input::mix(digest, wide(places[i]));
+        digest = numbers::mix(digest, wide(places[i]));
         i += 1;
     }
     digest
@@ -63,7 +63,7 @@ fn put_analysed(
 }
 
 fn put_lent(line: &mut [u8], end: usize, case: &[u8], places: &mut [u32], whole: bool) -> usize {
-    let count = input::number_at(case, 0, 2) as usize;
+    let count = numbers::number_at(case, 0, 2) as usize;
     if count > places.len() {
         return end;
     }

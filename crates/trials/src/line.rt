@@ -2,6 +2,7 @@
 // out, so that a line too long shows as one that differs.
 
 use sheet::Refusal;
+use std::io::{Print, Result, Stdout};
 
 // A space and the number's decimal digits.
 pub fn put_number(line: &mut [u8], end: usize, number: u64) -> usize {
@@ -34,10 +35,11 @@ pub fn put_bytes(line: &mut [u8], end: usize, bytes: &[u8]) -> usize {
     at
 }
 
-pub fn write(line: &[u8], end: usize) {
+pub fn write(output: Stdout, line: &[u8], end: usize) -> Result<()> {
     if end <= line.len() {
-        io::write_all(libc::STDOUT_FILENO, &line[..end]);
+        return output.write_all(&line[..end]);
     }
+    Ok(())
 }
 
 fn put_hex(line: &mut [u8], end: usize, byte: u8) -> usize {

@@ -5,7 +5,7 @@
 //   W  a buffer's length (2 bytes), processors (1 byte), count (8 bytes), rows: writes the set of
 //      these to a buffer whose byte i is i modulo 251, and prints refusal and digest of the buffer.
 //   V  the same, and then all of the buffer.
-use crate::{input, line};
+use crate::{line, numbers};
 use sheet::{Row, Set};
 
 const MOST_ROWS: usize = 32;
@@ -35,7 +35,7 @@ pub fn put_reading(line: &mut [u8], end: usize, bytes: &[u8]) -> usize {
     let end = line::put_refusal(line, end, reading.refusal);
     let end = line::put_number(line, end, set.processors as u64);
     let end = line::put_number(line, end, set.count as u64);
-    line::put_digest(line, end, input::mix_rows(0, rows))
+    line::put_digest(line, end, numbers::mix_rows(0, rows))
 }
 
 pub fn put_fields(line: &mut [u8], end: usize, bytes: &[u8]) -> usize {
@@ -50,7 +50,7 @@ pub fn put_shown(line: &mut [u8], end: usize, case: &[u8]) -> usize {
     if case.len() < 8 {
         return end;
     }
-    let row = input::number_at(case, 0, 8) as usize;
+    let row = numbers::number_at(case, 0, 8) as usize;
     let part = sheet::show(&case[8..], row);
     let end = line::put_number(line, end, part.len() as u64);
     let end = line::put_bytes(line, end, part);
@@ -76,17 +76,17 @@ fn set_of(case: &[u8]) -> Set {
         r += 1;
     }
     Set {
-        processors: (input::number_at(case, 2, 1) % 256) as u8,
-        count: input::number_at(case, 3, 8) as usize,
+        processors: (numbers::number_at(case, 2, 1) % 256) as u8,
+        count: numbers::number_at(case, 3, 8) as usize,
         rows: rows,
     }
 }
 
 fn put_written(line: &mut [u8], end: usize, case: &[u8], buffer: &mut [u8], whole: bool) -> usize {
-    input::fill(buffer);
+    numbers::fill(buffer);
     let refusal = sheet::write(set_of(case), buffer);
     let end = line::put_refusal(line, end, refusal);
-    let end = line::put_digest(line, end, input::digest_of_bytes(buffer));
+    let end = line::put_digest(line, end, numbers::digest_of_bytes(buffer));
     if whole {
         return line::put_bytes(line, end, buffer);
     }
@@ -94,7 +94,7 @@ fn put_written(line: &mut [u8], end: usize, case: &[u8], buffer: &mut [u8], whol
 }
 
 fn put_buffer(line: &mut [u8], end: usize, case: &[u8], buffer: &mut [u8], whole: bool) -> usize {
-    let room = input::number_at(case, 0, 2) as usize;
+    let room = numbers::number_at(case, 0, 2) as usize;
     if room > buffer.len() {
         return end;
     }

@@ -3,7 +3,7 @@
 //      row, line, column and length of the answer, digest of the buffer, and the bytes of the line for a refusal.
 //   L  a buffer's length (2 bytes), a sheet: lists the sheet in such a buffer, and prints where the text ends, digest of the
 //      buffer, and the bytes of the text.
-use crate::{input, line};
+use crate::{line, numbers};
 use sheet_text::Answer;
 
 fn put_numbers(line: &mut [u8], end: usize, answer: Answer) -> usize {
@@ -24,23 +24,23 @@ fn put_words(line: &mut [u8], end: usize, answer: Answer) -> usize {
 }
 
 fn put_composed(line: &mut [u8], end: usize, text: &[u8], buffer: &mut [u8]) -> usize {
-    input::fill(buffer);
+    numbers::fill(buffer);
     let answer = sheet_text::compose(text, buffer);
     let end = put_numbers(line, end, answer);
-    let end = line::put_digest(line, end, input::digest_of_bytes(buffer));
+    let end = line::put_digest(line, end, numbers::digest_of_bytes(buffer));
     put_words(line, end, answer)
 }
 
 fn put_listed(line: &mut [u8], end: usize, sheet: &[u8], buffer: &mut [u8]) -> usize {
-    input::fill(buffer);
+    numbers::fill(buffer);
     let stop = sheet_text::list(sheet, buffer);
     let end = line::put_number(line, end, stop as u64);
-    let end = line::put_digest(line, end, input::digest_of_bytes(buffer));
+    let end = line::put_digest(line, end, numbers::digest_of_bytes(buffer));
     line::put_bytes(line, end, &buffer[..stop])
 }
 
 fn put_lent(line: &mut [u8], end: usize, case: &[u8], buffer: &mut [u8], list: bool) -> usize {
-    let room = input::number_at(case, 0, 2) as usize;
+    let room = numbers::number_at(case, 0, 2) as usize;
     if room > buffer.len() {
         return end;
     }

@@ -1,0 +1,36 @@
+use mathlib.Core.Path.{◌≡◌, ◌∙◌, ap}
+use native.Mathlib.Omega.{arith}
+use Rattle.bench.specs.Calls.{with_calls, begin, outcome}
+use Rattle.bench.proofs.Calling.{released_more, ticked_more}
+use Rattle.bench_callers.proofs.bench_callers.Goals.{then-place-releases, else-place-releases, then-place-releases-2, else-place-releases-2}
+use Rattle.bench_callers.proofs.bench_callers.Goals as goal
+
+pub loop-call-init : goal.loop-call-init
+unfolding with_calls begin
+loop-call-init c = (rw c.start-started.ensures, omega arith)
+
+pub loop-call-preserved : goal.loop-call-preserved
+loop-call-preserved c = let so_far = c.loop-call.invariant.0 in
+    let place = c.place_in-place.ensures in (
+      elim c.if-place-releases.branch [
+        | then-place-releases w ↦ rw (w.state-is, w.digest-is) (released_more _ _ _ _ _ so_far _ place w.if-place-releases.true _ w.release-released.ensures _ w.mixed-digest.ensures)
+        | else-place-releases w ↦ rw (w.state-is, w.digest-is) (ticked_more _ _ _ _ _ so_far _ place w.if-place-releases.false _ w.tick-ticked.ensures _ w.beat_mixed-digest.ensures)
+      ],
+      omega arith,
+    )
+
+pub loop-call-2-preserved : goal.loop-call-2-preserved
+loop-call-2-preserved c = let so_far = c.loop-call-2.invariant.0 in
+    let place = c.place_in-place-in-loop-call-2.ensures in (
+      elim c.if-place-releases-2.branch [
+        | then-place-releases-2 w ↦ rw (w.state-is, w.digest-is) (released_more _ _ _ _ _ so_far _ place w.if-place-releases-2.true _ w.release-released-then-place-releases-2.ensures _ w.mixed-digest-then-place-releases-2.ensures)
+        | else-place-releases-2 w ↦ rw (w.state-is, w.digest-is) (ticked_more _ _ _ _ _ so_far _ place w.if-place-releases-2.false _ w.tick-ticked-else-place-releases-2.ensures _ w.beat_mixed-digest-else-place-releases-2.ensures)
+      ],
+      omega arith,
+    )
+
+pub returns : goal.returns
+unfolding outcome
+returns c = let at = c.loop-call-2 in
+    let all : at.call ≡ c.args.calls = omega arith in
+    c.state_mixed.ensures ∙ ap outcome at.invariant.0 ∙ rw all

@@ -1,0 +1,7 @@
+use Rattle.board.specs.Shape.{row_is_zero}
+use Rattle.board.proofs.Zeros.{sum_zero}
+use Rattle.board.proofs.shape.row_is_zero.Goals as goal
+
+pub returns : goal.returns
+unfolding row_is_zero
+returns c = simp sum_zero

@@ -1,0 +1,11 @@
+use mathlib.Core.Path.{sym}
+use Prim.Native.Nat.{zero-le}
+use lib.Seq.{length-take-le}
+use Rattle.text.proofs.PuttingLaws.{puts_within}
+use Rattle.list.proofs.main.Goals as goal
+
+pub slice_bounds-text-end : goal.slice_bounds-text-end
+slice_bounds-text-end c = puts_within c.list-end.ensures zero-le
+
+pub slice_bounds-write_all-end : goal.slice_bounds-write_all-end
+slice_bounds-write_all-end c = sym (length-take-le _ _ (puts_within c.list-end.ensures zero-le))

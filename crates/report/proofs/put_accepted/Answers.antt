@@ -1,0 +1,14 @@
+use mathlib.Core.List.{append_assoc}
+use Rattle.report.specs.Report.{accepted_line, accepted_text}
+use Rattle.text.proofs.PuttingLaws.{puts_then}
+use Rattle.report.proofs.put_accepted.Goals as goal
+
+pub returns : goal.returns
+unfolding accepted_text accepted_line
+returns c = simp append_assoc
+    (simp append_assoc at
+    (puts_then
+    c.put-end.ensures
+    (puts_then
+    c.put_field-end.ensures
+    (puts_then c.put-end-2.ensures c.put_rows.ensures))))
