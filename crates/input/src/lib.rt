@@ -1,11 +1,11 @@
-// The whole of standard input.
+// The whole of an input: in the programs, of standard input.
 #![tactic(auto)]
 
 ghost use Rattle.io.specs.Counts.{IsPrefixLen};
 
 use std::io::Read;
 
-// Reads standard input to its end, or until the buffer is full; the answer is how many bytes were read. Where a read
+// Reads the input to its end, or until the buffer is full; the answer is how many bytes were read. Where a read
 // fails the input is unknown, so none of it counts: what came before may be half of it.
 pub fn read_input<R: Read>(input: &mut R, buffer: &mut [u8]) -> usize
     ensures { IsPrefixLen result buffer.new }
