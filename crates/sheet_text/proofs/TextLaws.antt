@@ -95,7 +95,7 @@ module _ (text : List ℕ) (m : Meaning) (e : m ≡ meaning_of text) where
   pub compose_good : (buffer after : List ℕ) (refusal : Refusal) → m.fault.number ≡ 0 → refusal ≡ write_refusal m.set (length buffer) → after ≡ written m.set buffer
       → (answer_of refusal m.set.count ≡ compose_answer text (length buffer)) × (after ≡ composed text buffer)
   unfolding compose_answer composed
-  compose_good buffer after refusal z r w =
+  compose_good buffer _ refusal z r w =
       let clear = ap (λ (f : Fault). f.number) fault_is ∙ z in (
         ap (λ (x : Refusal). answer_of x m.set.count) r
             ∙ ap (λ (x : Meaning). answer_of (write_refusal x.set (length buffer)) x.set.count) e

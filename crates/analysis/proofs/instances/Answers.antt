@@ -21,10 +21,10 @@ length_most c =
 released : (c : After-memory_end) → (c.loop-q.q * c.args.row.period ≤ (c.memory_end.result + c.args.row.computation)) × ((c.memory_end.result + c.args.row.computation) ≤ limit)
 unfolding column_equations
 released c =
-    let lawful : Lawful (column_equations c.args.weights.now c.args.periods.now c.args.leads.now c.args.ranked c.args.higher c.args.row c.args.blocked) = columns_lawful _ _ _ _ _ _ _ c.requires.1 in
-    let length_most : (1 ≤ c.args.len) × (c.args.len ≤ limit) = let b = busy_solves _ lawful _ c.requires.2 in (b.from, b.within) in
-    let i = done_known _ lawful _ _ c.requires.2 _ _ _ c.loop-q.invariant c.loop-q-test.true in
-    omega (arith, i.released, i.memory_after, i.finish_by, c.memory_end.ensures, length_most)
+    let k = columns_lawful _ _ _ _ _ _ _ c.requires.1 in
+    let b = busy_solves _ k _ c.requires.2 in
+    let i = done_known _ k _ _ c.requires.2 _ _ _ c.loop-q.invariant c.loop-q-test.true in
+    omega (arith, i.released, i.memory_after, i.finish_by, c.memory_end.ensures, b.from, b.within)
 
 responds : (c : After-memory_end) → (c.memory_end.result + c.args.row.computation) - c.loop-q.q * c.args.row.period ≡ response (column_equations c.args.weights.now c.args.periods.now c.args.leads.now c.args.ranked c.args.higher c.args.row c.args.blocked) c.loop-q.q
 unfolding column_equations response

@@ -23,9 +23,8 @@ row_is c =
 
 fault_is : (c : After-row_fault-number) → c.row_fault-number.result ≡ spec.record_fault (c.args.sheet.now) c.loop-i.i
 fault_is c =
-    let row_is : c.row_of-row.result ≡ layout.row_at (c.args.sheet.now) c.loop-i.i = c.row_of-row.ensures ∙ laws.row_part _ _ (omega arith) in
     let g = c.loop-i.invariant in
-    c.row_fault-number.ensures ∙ cc (g.procs, g.last, row_is, laws.record_row _ _ c.if-sheet-at-ne17.false)
+    c.row_fault-number.ensures ∙ cc (g.procs, g.last, c.row_of-row.ensures ∙ laws.row_part c.args.sheet.now c.loop-i.i (omega arith), laws.record_row _ _ c.if-sheet-at-ne17.false)
 
 pub returns-then-fault-ne-ACCEPTED : goal.returns-then-fault-ne-ACCEPTED
 returns-then-fault-ne-ACCEPTED c = c.refuse.ensures ∙ laws.header_refused _ _ c.header_fault-fault.ensures c.if-fault-ne-ACCEPTED.true

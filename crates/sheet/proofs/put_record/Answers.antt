@@ -12,14 +12,11 @@ len c =
 
 len2 : (c : After-put_word-2) → length c.put_word-2.new.out ≡ 18
 len2 c =
-    let len : length c.put_word.new.out ≡ 18 = c.put_word.auto.out ∙ simp length-set c.requires in
-    c.put_word-2.auto.out ∙ len
+    c.put_word-2.auto.out ∙ c.put_word.auto.out ∙ simp length-set c.requires
 
 len3 : (c : After-put_word-3) → length c.put_word-3.new.out ≡ 18
 len3 c =
-    let len : length c.put_word.new.out ≡ 18 = c.put_word.auto.out ∙ simp length-set c.requires in
-    let len2 : length c.put_word-2.new.out ≡ 18 = c.put_word-2.auto.out ∙ len in
-    c.put_word-3.auto.out ∙ len2
+    c.put_word-3.auto.out ∙ c.put_word-2.auto.out ∙ c.put_word.auto.out ∙ simp length-set c.requires
 
 pub put_word-requires : goal.put_word-requires
 put_word-requires c = simp length-set (omega arith)
@@ -37,8 +34,7 @@ put_word-requires-4 c =
 
 pub shape_of-out : goal.shape_of-out
 shape_of-out c =
-    let len4 : length c.put_word-4.new.out ≡ 18 = c.put_word-4.auto.out ∙ (len3 (goal.at.shape_of-out c).After-put_word-3) in
-    let h = len4 in omega arith
+    let h = c.put_word-4.auto.out ∙ len3 (goal.at.shape_of-out c).After-put_word-3 in omega arith
 
 pub returns : goal.returns
 returns c = rw (c.put_word-4.ensures, c.put_word-3.ensures, c.put_word-2.ensures, c.put_word.ensures)

@@ -13,8 +13,7 @@ accepting c =
 
 few : (c : Then-refusal-eq-ACCEPTED) → c.args.count ≤ 32
 few c =
-    let accepting : eqb c.args.refusal.number 0 ≡ true = eq-eqb c.args.refusal.number 0 c.if-refusal-eq-ACCEPTED.true in
-    c.requires accepting
+    c.requires (accepting c)
 
 pub overflow_mul-length : goal.overflow_mul-length
 overflow_mul-length c =

@@ -3,7 +3,7 @@ use Prim.Native.Nat.{◌*◌}
 use lib.ListN.{get_or}
 use borrow.Author.Tests.{leb-true}
 use native.Mathlib.Omega.{arith}
-use Prim.Native.Nat.{ℕ, ◌+◌, ◌-◌, ◌≤◌}
+use Prim.Native.Nat.{ℕ, ◌+◌, ◌-◌}
 use mathlib.Core.Path.{◌≡◌, refl, sym, ap, ◌∙◌}
 use lib.ListN.{drop}
 use Rattle.sheet_text.specs.Words as spec
@@ -21,6 +21,13 @@ digits : (c : After-loop-i) → spec.all_digits c.args.word.now ≡ true
 digits c =
     c.loop-i.invariant.digits ∙ laws.digits_end _ c.loop-i.i (omega arith)
 
+value_is : (c : After-loop-i) → parts.capped (spec.value_of c.args.word.now) ≡ c.loop-i.value
+value_is c =
+    let l = c.loop-i in
+    l.invariant.value_is
+    ∙ ap parts.capped (laws.value_end l.value c.args.word.now l.i (omega arith))
+    ∙ laws.capped_low l.value l.invariant.most
+
 pub loop-i-init : goal.loop-i-init
 loop-i-init c = record { within = omega arith; most = omega arith; digits = refl; value_is = refl }
 
@@ -30,8 +37,8 @@ returns-then-not-is_digit c = c.no_number.ensures
 
 pub digit_of-requires : goal.digit_of-requires
 digit_of-requires c =
-    let at_least_0 : 48 ≤ get_or c.args.word.now c.loop-i.i 0 = let d = simp and-eq-true_iff at (is_digit (goal.at.digit_of-requires c).Else-not-is_digit) in omega (arith, leb-true) in
-    at_least_0
+    let d = simp and-eq-true_iff at (is_digit (goal.at.digit_of-requires c).Else-not-is_digit) in
+    omega (arith, leb-true)
 
 pub loop-i-preserved : goal.loop-i-preserved
 loop-i-preserved c =
@@ -52,18 +59,12 @@ loop-i-preserved c =
 
 pub returns-then-most-value : goal.returns-then-most-value
 returns-then-most-value c =
-    let value_is : parts.capped (spec.value_of c.args.word.now) ≡ c.loop-i.value = let l = c.loop-i in
-    l.invariant.value_is
-    ∙ ap parts.capped (laws.value_end l.value c.args.word.now l.i (omega arith))
-    ∙ laws.capped_low l.value l.invariant.most in
     let most = c.args.most in
-    c.no_number-then-most-value.ensures ∙ laws.number_large most c.args.word.now (omega arith) (digits (goal.at.returns-then-most-value c).After-loop-i) (omega (arith, value_is))
+    let end = (goal.at.returns-then-most-value c).After-loop-i in
+    c.no_number-then-most-value.ensures ∙ laws.number_large most c.args.word.now (omega arith) (digits end) (omega (arith, value_is end))
 
 pub returns : goal.returns
 returns c =
-    let value_is : parts.capped (spec.value_of c.args.word.now) ≡ c.loop-i.value = let l = c.loop-i in
-    l.invariant.value_is
-    ∙ ap parts.capped (laws.value_end l.value c.args.word.now l.i (omega arith))
-    ∙ laws.capped_low l.value l.invariant.most in
     let most = c.args.most in
-    ap (λ (v : ℕ). record { fault = 0; value = v }) (sym value_is) ∙ laws.number_good most c.args.word.now (omega arith) (digits (goal.at.returns c).After-loop-i) (omega (arith, value_is))
+    let end = (goal.at.returns c).After-loop-i in
+    ap (λ (v : ℕ). record { fault = 0; value = v }) (sym (value_is end)) ∙ laws.number_good most c.args.word.now (omega arith) (digits end) (omega (arith, value_is end))

@@ -1,12 +1,13 @@
-use Prim.Native.Nat.{◌<◌}
+use Prim.Native.Nat.{ℕ, ◌≤◌, ◌<◌}
 use mathlib.Core.Path.{◌≡◌, ◌∙◌, sym, ap}
+use mathlib.Core.Bool.{Bool, true}
 use native.Mathlib.Omega.{arith}
 use Rattle.sheet.specs.Refusals.{accepted}
-use Rattle.sheet.specs.Ranges.{most_rows}
+use Rattle.sheet.specs.Ranges.{most_processors, most_rows}
 use Rattle.board.specs.declared.State.{State}
 use Rattle.board.specs.Shape.{shape_ok}
 use Rattle.board.proofs.ShapeFacts.{Shaped, shaped, below_most}
-use Rattle.board.proofs.Checking.{tested_more, rows_none, rows_below, rows_more, past_none, past_below, past_more, hands_none, hands_all}
+use Rattle.board.proofs.Checking.{HandsTested, tested_more, rows_none, rows_below, rows_more, past_none, past_below, past_more, hands_none, hands_all}
 use Rattle.board.proofs.Answers.{release_shapeless, release_no_row, release_stays, release_taken, release_stored}
 use borrow.Author.Rules.{rules}
 use Rattle.board.proofs.State.release.Goals.{then-fits+then-row-count+then-number-eq-ACCEPTED, then-fits+then-row-count+else-number-eq-ACCEPTED, then-fits+else-row-count, else-fits, After-loop-h, In-loop-i, In-loop-i-2, Then-fits, Then-row-count}
@@ -24,16 +25,17 @@ checked : (c : After-loop-h) → c.loop-h.fits ≡ shape_ok c.args.self
 checked c =
     hands_all c.args.self _ _ c.loop-h.invariant c.loop-h-test.false
 
+-- The shape, once the check has passed.
+passed : (s : State) (fits : Bool) (h : ℕ) → HandsTested s fits h → most_processors ≤ h → fits ≡ true → Shaped s
+passed s fits h c l t = shaped s (sym (hands_all s fits h c l) ∙ t)
+
 shape_in : (c : Then-fits) → Shaped c.args.self
 shape_in c =
-    let checked : c.loop-h.fits ≡ shape_ok c.args.self = hands_all c.args.self _ _ c.loop-h.invariant c.loop-h-test.false in
-    shaped _ (sym checked ∙ c.if-fits.true)
+    passed _ _ _ c.loop-h.invariant c.loop-h-test.false c.if-fits.true
 
 small : (c : Then-row-count) → c.args.row < most_rows
 small c =
-    let checked : c.loop-h.fits ≡ shape_ok c.args.self = hands_all c.args.self _ _ c.loop-h.invariant c.loop-h-test.false in
-    let shape_in : Shaped c.args.self = shaped _ (sym checked ∙ c.if-fits.true) in
-    below_most _ shape_in _ c.if-row-count.true
+    below_most _ (passed _ _ _ c.loop-h.invariant c.loop-h-test.false c.if-fits.true) _ c.if-row-count.true
 
 pub loop-i-init : goal.loop-i-init
 loop-i-init c = rows_none _ _ c.head_fits-fits.ensures

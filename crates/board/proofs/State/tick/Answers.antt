@@ -31,14 +31,20 @@ use Rattle.board.proofs.Granting.{may_have}
 use Rattle.board.proofs.Turning.{Turned, from_nobody, with_nobody, turned_none, turned_free, turned_hand, turned_all, hand_before, job_before, nobody_has, in_turn}
 use Rattle.board.proofs.State.tick.Goals.{then-is_waiting, else-is_waiting, then-k-lt32+then-turn-2, then-turn, else-turn, then-k-lt32+else-turn-2, else-k-lt32, then-number-eq-ACCEPTED+else-loop-p-test, else-number-eq-ACCEPTED}
 use Rattle.board.proofs.State.tick.Goals as goal
+use Rattle.board.proofs.State.tick.Goals.{In-loop-i, Then-number-eq-ACCEPTED}
+
+in_rows : (c : In-loop-i) → c.loop-i.i < most_rows
+in_rows c =
+    rows_below _ _ _ c.loop-i-test.true
 
 -- The number that the check ends with is the call's.
 numbered : (s : State) (fits : Bool) (h : ℕ) → HandsTested s fits h → most_processors ≤ h → (number : ℕ) → number ≡ first_of (tick_table fits s.clock) → number ≡ tick_number s
 unfolding tick_number
 numbered s fits h c l number e = e ∙ ap (λ (b : Bool). first_of (tick_table b s.clock)) (hands_all s fits h c l)
 
-goes : (s : State) (fits : Bool) (h : ℕ) → HandsTested s fits h → most_processors ≤ h → (number : ℕ) → number ≡ first_of (tick_table fits s.clock) → number ≡ 0 → MayTick s
-goes s fits h c l number e z = may_tick s (sym (numbered s fits h c l number e) ∙ z)
+goes : (c : Then-number-eq-ACCEPTED) → MayTick c.args.self
+goes c =
+    may_tick _ (sym (numbered _ _ _ c.loop-h.invariant c.loop-h-test.false _ c.tick_number-number.ensures) ∙ c.if-number-eq-ACCEPTED.true)
 
 -- The words of waiting rows, once the state is known to have the shape.
 words : (s : State) → Shaped s → (fits : Bool) (masks : List ℕ) (last i : ℕ) → RowsTested s fits last i → Gathered s masks i → rows_go_on s.set.count fits i ≡ false
@@ -81,16 +87,13 @@ pub loop-i-init : goal.loop-i-init
 loop-i-init c = (rows_none _ _ c.head_fits-fits.ensures, gathered_none _)
 
 pub offset_bounds-set-i : goal.offset_bounds-set-i
-offset_bounds-set-i c = let in_rows : c.loop-i.i < most_rows = rows_below _ _ _ c.loop-i-test.true in
-    omega (arith, in_rows)
+offset_bounds-set-i c = omega (arith, in_rows (goal.at.offset_bounds-set-i c).In-loop-i)
 
 pub offset_bounds-jobs-i : goal.offset_bounds-jobs-i
-offset_bounds-jobs-i c = let in_rows : c.loop-i.i < most_rows = rows_below _ _ _ c.loop-i-test.true in
-    omega (arith, in_rows)
+offset_bounds-jobs-i c = omega (arith, in_rows (goal.at.offset_bounds-jobs-i c).In-loop-i)
 
 pub overflow_add-i : goal.overflow_add-i
-overflow_add-i c = let in_rows : c.loop-i.i < most_rows = rows_below _ _ _ c.loop-i-test.true in
-    omega (arith, in_rows)
+overflow_add-i c = omega (arith, in_rows (goal.at.overflow_add-i c).In-loop-i)
 
 pub loop-i-preserved : goal.loop-i-preserved
 loop-i-preserved c = let s = c.args.self in
@@ -120,20 +123,23 @@ pub loop-h-preserved : goal.loop-h-preserved
 loop-h-preserved c = tested_more _ _ _ _ _ _ c.loop-h.invariant c.loop-h-test.true (rw c.row_or.ensures at c.hand_is_own-fits.ensures)
 
 pub loop-p-init : goal.loop-p-init
-loop-p-init c = let s = c.args.self in
-    let m = goes s _ _ c.loop-h.invariant c.loop-h-test.false _ c.tick_number-number.ensures c.if-number-eq-ACCEPTED.true in
+loop-p-init c =
+    let s = c.args.self in
+    let m = goes (goal.at.loop-p-init c).Then-number-eq-ACCEPTED in
     turned_none _ s m.shape (with_nobody s) (search rules) (search rules)
 
 pub turned-turn-requires : goal.turned-turn-requires
-turned-turn-requires c = let s = c.args.self in
-    let m = goes s _ _ c.loop-h.invariant c.loop-h-test.false _ c.tick_number-number.ensures c.if-number-eq-ACCEPTED.true in
+turned-turn-requires c =
+    let s = c.args.self in
+    let m = goes (goal.at.turned-turn-requires c).Then-number-eq-ACCEPTED in
     let l : c.loop-p.p < most_processors = omega arith in
     let w = words s m.shape _ _ _ _ c.loop-i.invariant.0 c.loop-i.invariant.1 c.loop-i-test.false c.loop-p.p l in
     turn_asked s m _ _ _ _ c.loop-p.invariant l _ w _ c.row_or-k.ensures c.if-k-lt32.true
 
 pub loop-p-preserved : goal.loop-p-preserved
-loop-p-preserved c = let s = c.args.self in
-    let m = goes s _ _ c.loop-h.invariant c.loop-h-test.false _ c.tick_number-number.ensures c.if-number-eq-ACCEPTED.true in
+loop-p-preserved c =
+    let s = c.args.self in
+    let m = goes (goal.at.loop-p-preserved c).Then-number-eq-ACCEPTED in
     let a = c.loop-p.invariant in
     let l : c.loop-p.p < most_processors = omega arith in
     let w = words s m.shape _ _ _ _ c.loop-i.invariant.0 c.loop-i.invariant.1 c.loop-i-test.false c.loop-p.p l in
@@ -159,8 +165,7 @@ loop-p-preserved c = let s = c.args.self in
     ]
 
 pub overflow_add-next : goal.overflow_add-next
-overflow_add-next c = let m = goes c.args.self _ _ c.loop-h.invariant c.loop-h-test.false _ c.tick_number-number.ensures c.if-number-eq-ACCEPTED.true in
-    omega (arith, m.early)
+overflow_add-next c = omega (arith, (goes (goal.at.overflow_add-next c).Then-number-eq-ACCEPTED).early)
 
 pub returns : goal.returns
 returns c = let s = c.args.self in

@@ -8,19 +8,18 @@ use Rattle.board.specs.declared.Job.{Job}
 use Rattle.board.proofs.shape.job_fits.Goals as goal
 
 module _ (clock : ℕ) (row : Row) (held : Bool) (job : Job) (last : job.last ≤ clock) (worst : job.worst ≤ clock) (completed : job.completed ≤ clock) (zero : Bool) (e : zero ≡ absent_with_zeros job) where
+  ever_or_zeros : (b : Bool) → (job.ever || zero) ≡ b → (job.ever || absent_with_zeros job) ≡ b
+  ever_or_zeros b h = ap (λ (z : Bool). job.ever || z) (sym e) ∙ h
+
   -- A row never released that is not absent with zeros,
   unreleased_fails : (job.ever || zero) ≡ false → false ≡ job_fits clock row held job
   unfolding job_fits at_most_clock ever_or_zero
-  unreleased_fails h =
-      let z : (job.ever || absent_with_zeros job) ≡ false = ap (λ (b : Bool). job.ever || b) (sym e) ∙ h in
-      rw (le-leb job.last clock last, le-leb job.worst clock worst, le-leb job.completed clock completed, z)
+  unreleased_fails h = rw (le-leb job.last clock last, le-leb job.worst clock worst, le-leb job.completed clock completed, ever_or_zeros false h)
 
   -- and any other.
   standing_decides : (job.ever || zero) ≡ true → standing_fits row held job.standing ≡ job_fits clock row held job
   unfolding job_fits at_most_clock ever_or_zero
-  standing_decides h =
-      let z : (job.ever || absent_with_zeros job) ≡ true = ap (λ (b : Bool). job.ever || b) (sym e) ∙ h in
-      rw (le-leb job.last clock last, le-leb job.worst clock worst, le-leb job.completed clock completed, z)
+  standing_decides h = rw (le-leb job.last clock last, le-leb job.worst clock worst, le-leb job.completed clock completed, ever_or_zeros true h)
 
 pub returns-then-clock-job : goal.returns-then-clock-job
 unfolding job_fits at_most_clock
