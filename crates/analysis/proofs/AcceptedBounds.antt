@@ -6,14 +6,14 @@ use mathlib.Core.List.{List}
 use native.Mathlib.Omega.{arith}
 use native.Mathlib.Nat.{suc-mul}
 use lib.ListN.{length}
-use Rattle.laws.specs.declared.Found.TheVariants.{At}
+use Rattle.std.specs.Prelude.{Some}
 use Rattle.laws.specs.RoundingLaws.{le_up}
 use Rattle.laws.specs.Sums.{max_to}
 use Rattle.laws.specs.SumLaws.{max_at}
 use Rattle.laws.specs.LeastLaws.{least_at}
 use Rattle.sheet.specs.declared.Set.{Set}
 use Rattle.sheet.specs.Ranges.{row_in, memory_of, computation_of, length_of, WellFormed}
-use Rattle.analysis.specs.declared.Verdict.TheVariants.{Bound}
+use Rattle.std.specs.Prelude.{Ok}
 use Rattle.analysis.specs.Equations.{Equations, whole_of, limit, busy_at, busy_length, instances_in, start_at, start, end_at, memory_end, response, verdict_of}
 use Rattle.analysis.specs.Bounds.{is_higher, sum_over, asked, asked_with, blocking, token_taken, equations_of, bound_in, Accepted, analyse_set}
 use Rattle.analysis.proofs.Lawful.{Lawful}
@@ -59,15 +59,15 @@ record Solved (k : Equations) (D R L : ℕ) : Type 0 where
   ends : (q : ℕ) → q * k.period < L → memory_end k q ≡ end_at k q (start k q) (memory_end k q)
   finishes : (q : ℕ) → q * k.period < L → memory_end k q + k.computation ≤ R + q * k.period
 
-solved : (k : Equations) → Lawful k → (D R : ℕ) → verdict_of k D ≡ Bound R → (L : ℕ) × Solved k D R L
+solved : (k : Equations) → Lawful k → (D R : ℕ) → verdict_of k D ≡ Ok R → (L : ℕ) × Solved k D R L
 solved k lawful D R e =
-    let t = verdict_length k D (Bound R) e (λ z. let q : ◌≡◌ {A = ℕ} 0 1 = cc in omega arith) in
+    let t = verdict_length k D (Ok R) e (λ z. let q : ◌≡◌ {A = ℕ} 0 1 = cc in omega arith) in
     (t.0, from t.0 t.1 (judged_bound k D (instances_in k t.0) R t.2).1)
   where
     below : (L q : ℕ) → q * k.period < L → q < instances_in k L
     below L q h = le_up (suc q) L k.period lawful.some_period (omega (arith, suc-mul q k.period))
 
-    from : (L : ℕ) → busy_length k ≡ At L → R ≡ max_to (response k) (instances_in k L) → Solved k D R L
+    from : (L : ℕ) → busy_length k ≡ Some L → R ≡ max_to (response k) (instances_in k L) → Solved k D R L
     from L f m =
         let b = busy_solves k lawful L f in
         let at : (q : ℕ) → q * k.period < L → Instance k L q = λ q h. instance_exists k lawful L f q (below L q h) in

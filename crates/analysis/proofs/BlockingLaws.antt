@@ -1,5 +1,5 @@
 -- B of a row from B of the row below it.
-use Prim.Native.Nat.{ℕ, suc, ◌-◌, ◌≤◌, ◌<◌, max}
+use Prim.Native.Nat.{ℕ, suc, ◌-◌, ◌*◌, ◌≤◌, ◌<◌, max}
 use mathlib.Core.Path.{◌≡◌, refl, sym, ap, subst, ◌∙◌}
 use mathlib.Core.List.{List}
 use mathlib.Core.Bool.{Bool, true, false, ◌&&◌}
@@ -12,10 +12,10 @@ use borrow.Author.Tests.{ltb-true, eqb-true, lt-ltb, eq-eqb, ne_eqb}
 use Rattle.laws.specs.Choice.{pick}
 use Rattle.laws.specs.SumLaws.{max_at, max_under}
 use Rattle.sheet.specs.declared.Set.{Set}
-use Rattle.sheet.specs.Ranges.{row_in, length_of, WellFormed}
+use Rattle.sheet.specs.Ranges.{most_ticks, row_in, length_of, WellFormed}
 use Rattle.sheet.proofs.Ranks.{processors_rise}
 use Rattle.analysis.specs.Bounds.{is_lower, only, largest_over, blocking}
-use Rattle.analysis.specs.Columns.{most_length, own, Blocks}
+use Rattle.analysis.specs.Entries.{places}
 
 both : (a b : Bool) → a ≡ true → b ≡ true → (a && b) ≡ true
 both a b p q = rw (p, q)
@@ -46,8 +46,8 @@ module _ (set : Set) where
       (λ p q. h j l (ltb-true i j q) (eqb-true (row_in set j).processor (row_in set i).processor p)))
 
   module _ (w : WellFormed set) where
-    pub blocking_most : (i : ℕ) → blocking set i ≤ most_length
-    blocking_most i = blocking_under i most_length (λ j l h e. omega (arith, w.row j l))
+    pub blocking_most : (i : ℕ) → blocking set i ≤ 2 * most_ticks
+    blocking_most i = blocking_under i (2 * most_ticks) (λ j l h e. omega (arith, w.row j l))
 
     pub blocking_last : (i : ℕ) → set.count ≤ suc i → blocking set i ≡ 0
     blocking_last i h = omega (arith, blocking_under i 0 (λ j l g e. absurd (omega (arith, g, l))))
@@ -81,38 +81,35 @@ module _ (set : Set) where
 -- A loop from the last row up has B of the rows from j - 1 on.
 pub record Blocked (set : Set) (blocked : List ℕ) (j : ℕ) : Type 0 where
   pub within : j ≤ set.count
-  pub long : length blocked ≡ own
+  pub long : length blocked ≡ places
   pub done : (k : ℕ) → j ≤ suc k → k < set.count → get_or blocked k 0 ≡ blocking set k
 
 module _ (set : Set) (w : WellFormed set) where
-  pub blocked_first : Blocked set (replicate own 0) set.count
+  pub blocked_first : Blocked set (replicate places 0) set.count
   blocked_first =
       record {
         within = omega arith;
-        long = length-replicate {A = ℕ} own 0;
-        done = λ k h l. get_or-replicate {A = ℕ} own k 0 0 (omega (arith, l, w.rows_most)) ∙ sym (blocking_last set w k h);
+        long = length-replicate {A = ℕ} places 0;
+        done = λ k h l. get_or-replicate {A = ℕ} places k 0 0 (omega (arith, l, w.rows_most)) ∙ sym (blocking_last set w k h);
       }
 
   pub blocked_more : (l : List ℕ) (j v : ℕ) → Blocked set l j → 1 < j
-      → v ≡ pick (eqb (row_in set (j - 1)).processor (row_in set (j - 2)).processor) (max (get_or l (j - 1) 0) (length_of (row_in set (j - 1)))) 0
-      → Blocked set (store l (j - 2) v) (j - 1)
+      → v ≡ pick (eqb (row_in set (j - 1)).processor (row_in set (j - 1 - 1)).processor) (max (get_or l (j - 1) 0) (length_of (row_in set (j - 1)))) 0
+      → Blocked set (store l (j - 1 - 1) v) (j - 1)
   blocked_more l j v b h e =
-      record { within = omega (arith, b.within); long = length-set l (j - 2) v ∙ b.long; done = λ k g c. at k g c (ℕ_discrete k (j - 2)) }
+      record { within = omega (arith, b.within); long = length-set l (j - 1 - 1) v ∙ b.long; done = λ k g c. at k g c (ℕ_discrete k (j - 1 - 1)) }
     where
-      next : suc (j - 2) ≡ j - 1
+      next : suc (j - 1 - 1) ≡ j - 1
       next = omega arith
 
-      here : v ≡ blocking set (j - 2)
+      here : v ≡ blocking set (j - 1 - 1)
       here =
-          let n = blocking_next set w (j - 2) (omega (arith, b.within)) in
+          let n = blocking_next set w (j - 1 - 1) (omega (arith, b.within)) in
           let d = b.done (j - 1) (omega arith) (omega (arith, b.within)) in
           e
-          ∙ ap (λ (x : ℕ). pick (eqb (row_in set (j - 1)).processor (row_in set (j - 2)).processor) (max x (length_of (row_in set (j - 1)))) 0) d
-          ∙ sym (subst (λ (x : ℕ). blocking set (j - 2) ≡ pick (eqb (row_in set x).processor (row_in set (j - 2)).processor) (max (blocking set x) (length_of (row_in set x))) 0) next n)
+          ∙ ap (λ (x : ℕ). pick (eqb (row_in set (j - 1)).processor (row_in set (j - 1 - 1)).processor) (max x (length_of (row_in set (j - 1)))) 0) d
+          ∙ sym (subst (λ (x : ℕ). blocking set (j - 1 - 1) ≡ pick (eqb (row_in set x).processor (row_in set (j - 1 - 1)).processor) (max (blocking set x) (length_of (row_in set x))) 0) next n)
 
-      at : (k : ℕ) → j - 1 ≤ suc k → k < set.count → Dec (k ≡ j - 2) → get_or (store l (j - 2) v) k 0 ≡ blocking set k
-      at k g c (yes p) = rw (p, get_or-set_same l (j - 2) v 0 (omega (arith, b.long, b.within, w.rows_most))) here
-      at k g c (no n) = get_or-set_other l (j - 2) k v 0 n ∙ b.done k (omega arith) c
-
-  pub blocked_all : (l : List ℕ) (j : ℕ) → Blocked set l j → j ≤ 1 → Blocks set l
-  blocked_all l j b h = record { long = b.long; block = λ i g. b.done i (omega arith) g }
+      at : (k : ℕ) → j - 1 ≤ suc k → k < set.count → Dec (k ≡ j - 1 - 1) → get_or (store l (j - 1 - 1) v) k 0 ≡ blocking set k
+      at k g c (yes p) = rw (p, get_or-set_same l (j - 1 - 1) v 0 (omega (arith, b.long, b.within, w.rows_most))) here
+      at k g c (no n) = get_or-set_other l (j - 1 - 1) k v 0 n ∙ b.done k (omega arith) c

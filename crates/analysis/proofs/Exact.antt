@@ -9,8 +9,10 @@ use lib.ListN.{length, get_or, take, length-append, get_or-append}
 use lib.Seq.{get_or-take, take_all, take-suc}
 use Rattle.sheet.specs.declared.Set.{Set}
 use Rattle.sheet.specs.Ranges.{row_in, WellFormed}
-use Rattle.analysis.specs.declared.Verdict.{Verdict}
-use Rattle.analysis.specs.declared.Verdict.TheVariants.{Busy, Late, Bound}
+use Rattle.std.specs.Prelude.{Result}
+use Rattle.analysis.specs.declared.Fault.{Fault}
+use Rattle.std.specs.Prelude.{Ok, Err}
+use Rattle.analysis.specs.declared.Fault.TheVariants.{Busy, Late}
 use Rattle.analysis.specs.Equations.{Equations, verdict_of}
 use Rattle.analysis.specs.Bounds.{equations_of, bound_in, Outcome, Accepted, BusyAt, LateAt, worked, analyse_set}
 use Rattle.analysis.specs.Direct.{HasBound, HaveBounds, Says}
@@ -34,7 +36,7 @@ module _ (set : Set) (wf : WellFormed set) where
   agree : (a b : List ℕ) (i : ℕ) → i < set.count → ((j : ℕ) → j < i → bound_in a j ≡ bound_in b j) → k a i ≡ k b i
   agree a b i l h = equations_same set wf (bound_in a) (bound_in b) i l h
 
-  more : (bounds : List ℕ) (i r : ℕ) → i < set.count → HaveBounds set bounds i → verdict_of (k bounds i) (row_in set i).deadline ≡ Bound r → HaveBounds set (bounds ++ (r ∷ [])) (suc i)
+  more : (bounds : List ℕ) (i r : ℕ) → i < set.count → HaveBounds set bounds i → verdict_of (k bounds i) (row_in set i).deadline ≡ Ok r → HaveBounds set (bounds ++ (r ∷ [])) (suc i)
   more bounds i r l h e =
       record { number = omega (arith, length-append bounds (r ∷ []), h.number); row = λ j g. at j g (ℕ_discrete j i) }
     where
@@ -65,10 +67,10 @@ module _ (set : Set) (wf : WellFormed set) where
   upto zero h = record { number = refl; row = λ j g. absurd (omega (arith, g)) }
   upto (suc i) h = go (worked set i) refl (upto i (omega arith))
     where
-      row : (bounds : List ℕ) → worked set i ≡ Accepted bounds → HaveBounds set bounds i → (v : Verdict) → verdict_of (k bounds i) (row_in set i).deadline ≡ v → Upto (suc i) (worked set (suc i))
-      row bounds e b (Bound r) f = rw (worked_bound set i bounds e r f) (more bounds i r h b f)
-      row bounds e b Busy f = rw (worked_busy set i bounds e f) (bounds, h, b, verdict_none_of (k bounds i) (lawful bounds i h) (row_in set i).deadline f)
-      row bounds e b (Late q) f = rw (worked_late set i bounds e q f) (bounds, h, b, late_of (k bounds i) (lawful bounds i h) (row_in set i).deadline q f)
+      row : (bounds : List ℕ) → worked set i ≡ Accepted bounds → HaveBounds set bounds i → (v : Result ℕ Fault) → verdict_of (k bounds i) (row_in set i).deadline ≡ v → Upto (suc i) (worked set (suc i))
+      row bounds e b (Ok r) f = rw (worked_bound set i bounds e r f) (more bounds i r h b f)
+      row bounds e b (Err Busy) f = rw (worked_busy set i bounds e f) (bounds, h, b, verdict_none_of (k bounds i) (lawful bounds i h) (row_in set i).deadline f)
+      row bounds e b (Err (Late q)) f = rw (worked_late set i bounds e q f) (bounds, h, b, late_of (k bounds i) (lawful bounds i h) (row_in set i).deadline q f)
 
       go : (o : Outcome) → worked set i ≡ o → Upto i o → Upto (suc i) (worked set (suc i))
       go (Accepted bounds) e b = row bounds e b (verdict_of (k bounds i) (row_in set i).deadline) refl

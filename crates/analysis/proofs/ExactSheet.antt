@@ -10,9 +10,9 @@ use borrow.Author.Tests.{eq-eqb}
 use Rattle.laws.specs.Choice.{pick}
 use Rattle.sheet.specs.declared.Set.{Set}
 use Rattle.sheet.specs.declared.Refusal.{Refusal}
-use Rattle.sheet.specs.Refusals.{accepts}
+use Rattle.sheet.specs.Refusals.{accepts, carried}
 use Rattle.sheet.specs.Reading.{read_refusal, set_of, read_sheet}
-use Rattle.sheet.proofs.ReadingLaws.{well_formed}
+use Rattle.sheet.proofs.ReadingLaws.{well_formed, read_carried}
 use Rattle.analysis.specs.Bounds.{Outcome, Accepted, BusyAt, LateAt, analyse_set}
 use Rattle.analysis.specs.Analysis.{refusal_of, reading_refusal, filled, reading_bounds, analyse_refusal, analysed}
 use Rattle.analysis.specs.Direct.{Says, TurnedDown}
@@ -44,9 +44,8 @@ module _ (s : List ℕ) (reads : (read_refusal s).number ≡ 0) where
   unfolding read_sheet
   set_is = rw (eq-eqb (read_refusal s).number 0 reads)
 
-  reading_is : (read_sheet s).refusal.number ≡ 0
-  unfolding read_sheet
-  reading_is = reads
+  reading_is : (carried (read_sheet s).refusal).number ≡ 0
+  reading_is = ap (λ (r : Refusal). r.number) (read_carried s) ∙ reads
 
   module _ (buffer : List ℕ) (room : (set_of s).count ≤ length buffer) where
     room_is : (read_sheet s).set.count ≤ length buffer

@@ -4,7 +4,7 @@ use Rattle.laws.specs.Sums.{sum_to, max_to}
 use Rattle.laws.specs.SumsWhere.{sum_where}
 use Rattle.laws.specs.Least.{least, solution_from}
 use Rattle.laws.specs.LeastLaws.{climb}
-use Rattle.laws.specs.declared.Found.TheVariants.{Nothing}
+use Rattle.std.specs.Prelude.{None}
 use Rattle.laws.specs.Search.{first_from}
 use Rattle.analysis.specs.Equations.{busy_at, busy_length, start_at, start, end_at, memory_end, response, judged, verdict_of}
 use Rattle.analysis.specs.Bounds.{sum_over, largest_over, blocking, token_taken, equations_of, row_after, worked, analyse_set, bound_in, BusyAt}
@@ -21,7 +21,7 @@ use Rattle.sheet.specs.Examples.{example_e1}
 use Rattle.analysis.specs.Analysis.{reading_refusal, reading_bounds, analyse_refusal, analysed}
 
 -- the climb passes the limit in few steps
-busy_e1 : busy_length (equations_of example_e1 (bound_in []) 0) ≡ Nothing
+busy_e1 : busy_length (equations_of example_e1 (bound_in []) 0) ≡ None
 unfolding climb busy_at equations_of blocking largest_over token_taken sum_over sum_where sum_to max_to
 busy_e1 = busy_climbs example_e1 (bound_in []) 0
 

@@ -5,22 +5,23 @@ use native.Mathlib.Omega.{arith}
 use native.Mathlib.Numerals.{add-one}
 use native.Mathlib.Nat.{suc-mul}
 use borrow.Author.Tests.{lt-ltb, le-ltb}
-use Rattle.laws.specs.declared.Found.TheVariants.{At}
+use Rattle.std.specs.Prelude.{Some}
 use Rattle.laws.specs.Sums.{max_to}
 use Rattle.laws.specs.SumLaws.{max_none, max_more}
 use Rattle.laws.specs.Search.{first, first_from}
 use Rattle.laws.specs.SearchLaws.{first_hit, first_skip, first_end}
 use Rattle.laws.specs.Least.{least}
 use Rattle.laws.specs.LeastLaws.{least_at, least_under}
-use Rattle.analysis.specs.declared.Verdict.TheVariants.{Late, Bound}
+use Rattle.std.specs.Prelude.{Ok, Err}
+use Rattle.analysis.specs.declared.Fault.TheVariants.{Late}
 use Rattle.analysis.specs.Equations.{Equations, whole_of, limit, busy_length, instances_in, start_at, start, end_at, memory_end, finish, response, is_late, judged}
-use Rattle.analysis.specs.Columns.{Turn}
+use Rattle.analysis.specs.Parts.{Turn}
 use Rattle.analysis.proofs.Lawful.{Lawful, start_mono, end_mono}
 use Rattle.analysis.proofs.InstancesExist.{Instance, instance_exists}
 
 -- The next instance starts at the finish of the one before or later, so that its search may begin there.
 module _ (k : Equations) (lawful : Lawful k) (L q : ℕ) (this : Instance k L q) where
-  next_starts : (s : ℕ) → least (start_at k (q + 1)) 0 limit ≡ At s → finish k q ≤ s
+  next_starts : (s : ℕ) → least (start_at k (q + 1)) 0 limit ≡ Some s → finish k q ≤ s
   unfolding start_at end_at
   next_starts s e =
       let m = lawful.rising in
@@ -54,7 +55,7 @@ pub record Done (k : Equations) (D L best from q : ℕ) : Type 0 where
   pub under : q < instances_in k L → from ≤ start k q
   pub rises : q < instances_in k L → from ≤ start_at k q from
 
-module _ (k : Equations) (lawful : Lawful k) (D L : ℕ) (found : busy_length k ≡ At L) where
+module _ (k : Equations) (lawful : Lawful k) (D L : ℕ) (found : busy_length k ≡ Some L) where
   pub done_first : Done k D L 0 0 0
   done_first =
       let e : instances_in k L ≡ instances_in k L - 0 = omega arith in
@@ -67,12 +68,12 @@ module _ (k : Equations) (lawful : Lawful k) (D L : ℕ) (found : busy_length k 
       }
 
   module _ (best from q : ℕ) (done : Done k D L best from q) where
-    pub done_last : instances_in k L ≤ q → judged k D (instances_in k L) ≡ Bound best
+    pub done_last : instances_in k L ≤ q → judged k D (instances_in k L) ≡ Ok best
     unfolding judged
     done_last h =
         let e : q ≡ instances_in k L = omega (arith, done.within) in
         let s : first (instances_in k L) (is_late k D) ≡ instances_in k L = done.search ∙ first_end (is_late k D) q (instances_in k L) h ∙ e in
-        rw (s, le-ltb (instances_in k L) (instances_in k L) (omega arith)) (ap Bound (sym (done.largest ∙ ap (max_to (response k)) e)))
+        rw (s, le-ltb (instances_in k L) (instances_in k L) (omega arith)) (ap Ok (sym (done.largest ∙ ap (max_to (response k)) e)))
 
     module _ (below : q < instances_in k L) where
       pub done_turn : Turn k q from
@@ -81,7 +82,7 @@ module _ (k : Equations) (lawful : Lawful k) (D L : ℕ) (found : busy_length k 
       pub done_known : Instance k L q
       done_known = instance_exists k lawful L found q below
 
-      pub done_late : D < response k q → judged k D (instances_in k L) ≡ Late q
+      pub done_late : D < response k q → judged k D (instances_in k L) ≡ Err (Late q)
       unfolding judged
       done_late h =
           let s : first (instances_in k L) (is_late k D) ≡ q = done.search ∙ first_hit (is_late k D) q (instances_in k L) below (lt-ltb D (response k q) h) in

@@ -3,9 +3,9 @@ use Prim.Native.Nat.{ℕ, zero, suc, ◌+◌, ◌-◌, ◌*◌, ◌≤◌, ◌<�
 use mathlib.Core.Path.{◌≡◌, sym, ap, ◌∙◌}
 use native.Mathlib.Omega.{arith}
 use native.Mathlib.Decide.{dec_le}
-use native.Mathlib.Nat.{mul-le-mul_right, le-mul_of_pos_right, suc-mul, one-mul}
-use Rattle.laws.specs.declared.Found.{Found}
-use Rattle.laws.specs.declared.Found.TheVariants.{At}
+use native.Mathlib.Nat.{mul-le-mul_right, suc-mul, one-mul}
+use Rattle.std.specs.Prelude.{Option}
+use Rattle.std.specs.Prelude.{Some}
 use Rattle.laws.specs.Rounding.{up}
 use Rattle.laws.specs.RoundingLaws.{up_pos, up_below, up_le}
 use Rattle.laws.specs.Least.{least}
@@ -15,15 +15,15 @@ use Rattle.analysis.proofs.Lawful.{Rising, Lawful, busy_mono, start_mono, end_mo
 
 -- What is known of instance q in a busy length L.
 pub record Instance (k : Equations) (L q : ℕ) : Type 0 where
-  pub starts : least (start_at k q) 0 limit ≡ At (start k q)
-  pub ends : least (end_at k q (start k q)) 0 limit ≡ At (memory_end k q)
+  pub starts : least (start_at k q) 0 limit ≡ Some (start k q)
+  pub ends : least (end_at k q (start k q)) 0 limit ≡ Some (memory_end k q)
   pub released : q * k.period ≤ start k q
   pub start_by : start k q + whole_of k ≤ L
   pub memory_after : start k q + k.memory ≤ memory_end k q
   pub finish_by : finish k q ≤ L
 
-found_number : (o : Found) (y : ℕ) → o ≡ At y → o ≡ At (number_of o)
-found_number o y e = e ∙ ap At (sym (ap number_of e))
+found_number : (o : Option ℕ) (y : ℕ) → o ≡ Some y → o ≡ Some (number_of o)
+found_number o y e = e ∙ ap Some (sym (ap number_of e))
 
 some_share : (q t w : ℕ) → 0 < q * t → 1 ≤ w → 1 ≤ q * w
 some_share zero t w h p = omega arith
@@ -31,7 +31,7 @@ some_share (suc k) t w h p = omega (arith, suc-mul k w)
 
 -- An instance with a start ends its memory phase at least m after it.
 module _ (k : Equations) (rising : Rising k) (q : ℕ) where
-  pub end_after : (s g : ℕ) → least (start_at k q) 0 limit ≡ At s → least (end_at k q s) 0 limit ≡ At g → s + k.memory ≤ g
+  pub end_after : (s g : ℕ) → least (start_at k q) 0 limit ≡ Some s → least (end_at k q s) 0 limit ≡ Some g → s + k.memory ≤ g
   unfolding start_at end_at
   end_after s g a b = go (dec_le (s + k.memory) g)
     where
@@ -50,13 +50,10 @@ module _ (k : Equations) (lawful : Lawful k) where
   busy_at_1 =
       omega (arith, mul-le-mul_right (whole_of k) (up_pos 1 k.period lawful.some_period (omega arith)), one-mul (whole_of k), lawful.some_work)
 
-  module _ (L : ℕ) (found : busy_length k ≡ At L) where
+  module _ (L : ℕ) (found : busy_length k ≡ Some L) where
     pub busy_solves : Solves (busy_at k) limit 1 L
     unfolding busy_length
     busy_solves = least_at (busy_at k) limit 1 L found
-
-    pub instances_most : instances_in k L ≤ L
-    instances_most = up_le L k.period L lawful.some_period (le-mul_of_pos_right L lawful.some_period)
 
     pub some_instance : 1 ≤ instances_in k L
     some_instance = up_pos L k.period lawful.some_period busy_solves.from
@@ -79,7 +76,7 @@ module _ (k : Equations) (lawful : Lawful k) where
       start_room =
           omega (arith, share, above_last, busy_solves.equal, lawful.rising.token_mono (L - 1) L (omega arith))
 
-      start_exists : (s : ℕ) × (least (start_at k q) 0 limit ≡ At s) × (s + whole_of k ≤ L)
+      start_exists : (s : ℕ) × (least (start_at k q) 0 limit ≡ Some s) × (s + whole_of k ≤ L)
       start_exists =
           let F : ℕ → ℕ = start_at k q in
           let m = start_mono k lawful.rising q in
@@ -96,25 +93,25 @@ module _ (k : Equations) (lawful : Lawful k) where
           let t : k.token x ≤ k.token L = lawful.rising.token_mono x L hx in
           omega (arith, share, above_last, b.equal)
 
-      end_exists : (s : ℕ) → s + whole_of k ≤ L → (g : ℕ) × (least (end_at k q s) 0 limit ≡ At g) × (g + k.computation ≤ L)
+      end_exists : (s : ℕ) → s + whole_of k ≤ L → (g : ℕ) × (least (end_at k q s) 0 limit ≡ Some g) × (g + k.computation ≤ L)
       end_exists s hs =
           let x : ℕ = L - k.computation in
           let r : end_at k q s x + k.computation ≤ L = end_room s x hs (omega arith) in
           let t = least_exists (end_at k q s) limit (end_mono k lawful.rising q s) 0 x (omega arith) (omega arith) (omega arith) (omega (arith, busy_solves.within)) in
           (t.0, t.1, omega (arith, t.2))
 
-      starts_at_1 : (s : ℕ) → least (start_at k q) 0 limit ≡ At s → s < q * k.period → 1 ≤ s
+      starts_at_1 : (s : ℕ) → least (start_at k q) 0 limit ≡ Some s → s < q * k.period → 1 ≤ s
       unfolding start_at
       starts_at_1 s e h =
           omega (arith, (least_at (start_at k q) limit 0 s e).equal, some_share q k.period (whole_of k) (omega arith) lawful.some_work)
 
-      early_busy : (s : ℕ) → least (start_at k q) 0 limit ≡ At s → s ≤ q * k.period → busy_at k s ≤ s
+      early_busy : (s : ℕ) → least (start_at k q) 0 limit ≡ Some s → s ≤ q * k.period → busy_at k s ≤ s
       unfolding start_at busy_at
       early_busy s e h =
           omega (arith, (least_at (start_at k q) limit 0 s e).equal, above_started s, mul-le-mul_right (whole_of k) (up_le s k.period q lawful.some_period h))
 
       -- an instance does not start before its release
-      start_after : (s : ℕ) → least (start_at k q) 0 limit ≡ At s → q * k.period ≤ s
+      start_after : (s : ℕ) → least (start_at k q) 0 limit ≡ Some s → q * k.period ≤ s
       unfolding busy_length
       start_after s e = go (dec_le (q * k.period) s)
         where
@@ -125,7 +122,7 @@ module _ (k : Equations) (lawful : Lawful k) where
               let b : L ≤ s = least_under (busy_at k) limit (busy_mono k lawful.rising) 1 L s found busy_at_1 (early_busy s e (omega arith)) p in
               omega (arith, up_below L k.period q lawful.some_period below)
 
-      start_found : least (start_at k q) 0 limit ≡ At (start k q)
+      start_found : least (start_at k q) 0 limit ≡ Some (start k q)
       unfolding start
       start_found = let t = start_exists in found_number (least (start_at k q) 0 limit) t.0 t.1
 
@@ -133,7 +130,7 @@ module _ (k : Equations) (lawful : Lawful k) where
       unfolding start
       start_by = let t = start_exists in omega (arith, ap number_of t.1, t.2)
 
-      end_found : least (end_at k q (start k q)) 0 limit ≡ At (memory_end k q)
+      end_found : least (end_at k q (start k q)) 0 limit ≡ Some (memory_end k q)
       unfolding memory_end
       end_found =
           let t = end_exists (start k q) start_by in

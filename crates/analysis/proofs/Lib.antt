@@ -3,11 +3,10 @@ pub mod InstancesExist
 pub mod WarmStarts
 pub mod VerdictLaws
 pub mod InstanceLoop
-pub mod ColumnLaws
 pub mod RowLaws
+pub mod EntryLaws
+pub mod EquationLaws
 pub mod BlockingLaws
-pub mod TwoStores
-pub mod Front
 pub mod RowsWorked
 pub mod RowsHeld
 pub mod RowsAnswer

@@ -6,22 +6,23 @@ use native.Mathlib.Omega.{arith}
 use native.Mathlib.Nat.{add-zero, add-suc}
 use Rattle.sheet.specs.declared.Set.{Set}
 use Rattle.sheet.specs.Ranges.{row_in}
-use Rattle.analysis.specs.declared.Verdict.TheVariants.{Busy, Late, Bound}
+use Rattle.std.specs.Prelude.{Ok, Err}
+use Rattle.analysis.specs.declared.Fault.TheVariants.{Busy, Late}
 use Rattle.analysis.specs.Equations.{verdict_of}
 use Rattle.analysis.specs.Bounds.{equations_of, bound_in, Accepted, BusyAt, LateAt, row_after, worked, analyse_set}
 
 module _ (set : Set) where
   -- row i after the rows before it have the bounds bs
   module _ (i : ℕ) (bs : List ℕ) (before : worked set i ≡ Accepted bs) where
-    pub worked_bound : (r : ℕ) → verdict_of (equations_of set (bound_in bs) i) (row_in set i).deadline ≡ Bound r → worked set (suc i) ≡ Accepted (bs ++ (r ∷ []))
+    pub worked_bound : (r : ℕ) → verdict_of (equations_of set (bound_in bs) i) (row_in set i).deadline ≡ Ok r → worked set (suc i) ≡ Accepted (bs ++ (r ∷ []))
     unfolding worked row_after
     worked_bound r e = rw (before, worked) (rw (e, row_after))
 
-    pub worked_busy : verdict_of (equations_of set (bound_in bs) i) (row_in set i).deadline ≡ Busy → worked set (suc i) ≡ BusyAt i
+    pub worked_busy : verdict_of (equations_of set (bound_in bs) i) (row_in set i).deadline ≡ Err Busy → worked set (suc i) ≡ BusyAt i
     unfolding worked row_after
     worked_busy e = rw (before, worked) (rw (e, row_after))
 
-    pub worked_late : (q : ℕ) → verdict_of (equations_of set (bound_in bs) i) (row_in set i).deadline ≡ Late q → worked set (suc i) ≡ LateAt i q
+    pub worked_late : (q : ℕ) → verdict_of (equations_of set (bound_in bs) i) (row_in set i).deadline ≡ Err (Late q) → worked set (suc i) ≡ LateAt i q
     unfolding worked row_after
     worked_late q e = rw (before, worked) (rw (e, row_after))
 

@@ -4,7 +4,7 @@ use mathlib.Core.Path.{◌≡◌}
 use native.Mathlib.Omega.{arith}
 use Rattle.laws.specs.LeastLaws.{Mono, least_at, least_under}
 use Rattle.analysis.specs.Equations.{Equations, limit, start_at, start, end_at, memory_end}
-use Rattle.analysis.specs.Columns.{solution, Warm}
+use Rattle.analysis.specs.Parts.{solution, Warm}
 use Rattle.analysis.proofs.Lawful.{Rising}
 use Rattle.analysis.proofs.InstancesExist.{Instance}
 

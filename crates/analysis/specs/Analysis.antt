@@ -3,7 +3,7 @@ use Rattle.std.specs.Prelude.{ℕ, List, [], ◌∷◌, ◌++◌, ltb, length, d
 use Rattle.laws.specs.Choice.{pick, ◌gives◌, first_of}
 use Rattle.sheet.specs.declared.Refusal.{Refusal}
 use Rattle.sheet.specs.declared.Reading.{Reading}
-use Rattle.sheet.specs.Refusals.{BUSY, LATE, ROOM, refused, accepted, accepts, or_else}
+use Rattle.sheet.specs.Refusals.{BUSY, LATE, ROOM, refused, accepted, accepts, carried, or_else}
 use Rattle.sheet.specs.Reading.{read_sheet}
 use Rattle.analysis.specs.Bounds.{Outcome, Accepted, BusyAt, LateAt, analyse_set}
 
@@ -20,7 +20,7 @@ room_refusal n places = refused (first_of (ltb places n gives ROOM ∷ [])) 0
 -- The analysis of what was read, with so many places for bounds.
 unfoldable pub reading_refusal : Reading → ℕ → Refusal
 reading_refusal reading places =
-    or_else reading.refusal (or_else (room_refusal reading.set.count places) (refusal_of (analyse_set reading.set)))
+    or_else (carried reading.refusal) (or_else (room_refusal reading.set.count places) (refusal_of (analyse_set reading.set)))
 
 -- A buffer with an outcome's bounds in its first places.
 abbrev pub filled : Outcome → List ℕ → List ℕ

@@ -8,7 +8,9 @@ use Rattle.sheet.specs.declared.Row.{Row}
 use Rattle.sheet.specs.declared.Set.{Set}
 use Rattle.sheet.specs.Ranges.{row_in, memory_of, computation_of, length_of}
 use Rattle.analysis.specs.Equations.{Equations, verdict_of}
-use Rattle.analysis.specs.declared.Verdict.TheVariants.{Busy, Late, Bound}
+use Rattle.std.specs.Prelude.{Ok, Err}
+use Rattle.analysis.specs.declared.Fault.{Fault}
+use Rattle.analysis.specs.declared.Fault.TheVariants.{Busy, Late}
 
 -- How row j stands to row i: a lower row of its processor, a higher one, or a row of a higher-ranked processor.
 abbrev pub is_lower : Set → ℕ → ℕ → Bool
@@ -72,13 +74,17 @@ pub data Outcome : Type 0 where
 abbrev pub bound_in : List ℕ → ℕ → ℕ
 bound_in bounds j = get_or bounds j 0
 
+-- The outcome of a row that has no bound.
+abbrev pub fault_at : ℕ → Fault → Outcome
+fault_at i Busy = BusyAt i
+fault_at i (Late q) = LateAt i q
+
 -- Row i, once the rows before it have bounds.
 unfoldable pub row_after : Set → List ℕ → ℕ → Outcome
 row_after set bounds i =
     elim (verdict_of (equations_of set (bound_in bounds) i) (row_in set i).deadline) [
-      | Bound r ↦ Accepted (bounds ++ (r ∷ []))
-      | Busy ↦ BusyAt i
-      | Late q ↦ LateAt i q
+      | Ok r ↦ Accepted (bounds ++ (r ∷ []))
+      | Err fault ↦ fault_at i fault
     ]
 
 -- The first rows in turn; the first that is refused ends it.

@@ -6,10 +6,12 @@ use Rattle.laws.specs.Rounding.{up}
 use Rattle.laws.specs.Sums.{max_to}
 use Rattle.laws.specs.Search.{first}
 use Rattle.laws.specs.Least.{least}
-use Rattle.laws.specs.declared.Found.{Found}
-use Rattle.laws.specs.declared.Found.TheVariants.{At, Nothing}
-use Rattle.analysis.specs.declared.Verdict.{Verdict}
-use Rattle.analysis.specs.declared.Verdict.TheVariants.{Busy, Late, Bound}
+use Rattle.std.specs.Prelude.{Option}
+use Rattle.std.specs.Prelude.{Some, None}
+use Rattle.std.specs.Prelude.{Result}
+use Rattle.analysis.specs.declared.Fault.{Fault}
+use Rattle.std.specs.Prelude.{Ok, Err}
+use Rattle.analysis.specs.declared.Fault.TheVariants.{Busy, Late}
 
 -- What the equations of a row are made of.
 pub record Equations : Type 0 where
@@ -34,15 +36,15 @@ whole_of k = k.memory + k.computation
 abbrev pub limit : ℕ
 limit = 4000000
 
-abbrev pub number_of : Found → ℕ
-number_of (At x) = x
-number_of Nothing = 0
+abbrev pub number_of : Option ℕ → ℕ
+number_of (Some x) = x
+number_of None = 0
 
 -- The equation of the busy length: L = B + (the row itself and the higher rows) + A(L).
 unfoldable pub busy_at : Equations → ℕ → ℕ
 busy_at k x = k.blocked + (k.above x + up x k.period * whole_of k) + k.token x
 
-unfoldable pub busy_length : Equations → Found
+unfoldable pub busy_length : Equations → Option ℕ
 busy_length k = least (busy_at k) 1 limit
 
 -- Instances q run from 0 to one less than this.
@@ -80,9 +82,9 @@ abbrev pub is_late : Equations → ℕ → ℕ → Bool
 is_late k D q = ltb D (response k q)
 
 -- The first of n instances that passes the deadline; where none does, the largest response.
-unfoldable pub judged : Equations → ℕ → ℕ → Verdict
-judged k D n = pick (ltb (first n (is_late k D)) n) (Late (first n (is_late k D))) (Bound (max_to (response k) n))
+unfoldable pub judged : Equations → ℕ → ℕ → Result ℕ Fault
+judged k D n = pick (ltb (first n (is_late k D)) n) (Err (Late (first n (is_late k D)))) (Ok (max_to (response k) n))
 
 -- What a row comes to.
-unfoldable pub verdict_of : Equations → ℕ → Verdict
-verdict_of k D = elim (busy_length k) [ At L ↦ judged k D (instances_in k L) | Nothing ↦ Busy ]
+unfoldable pub verdict_of : Equations → ℕ → Result ℕ Fault
+verdict_of k D = elim (busy_length k) [ Some L ↦ judged k D (instances_in k L) | None ↦ Err Busy ]

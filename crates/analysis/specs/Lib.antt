@@ -2,5 +2,6 @@ pub mod Equations
 pub mod Bounds
 pub mod Analysis
 pub mod Direct
-pub mod Columns
+pub mod Entries
+pub mod Parts
 pub mod Examples

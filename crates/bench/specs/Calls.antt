@@ -1,23 +1,21 @@
 -- Many calls on one board: in each round the first rows are released, one after the other, and then ticks are made. What comes
 -- out is a digest of every answer and of the state reached.
-use Rattle.std.specs.Prelude.{ℕ, zero, suc, ◌%◌, List, ltb}
+use Rattle.std.specs.Prelude.{ℕ, zero, suc, ◌%◌, List, ltb, Option, None, Some}
 use Rattle.laws.specs.Choice.{pick}
+use Rattle.sheet.specs.Refusals.{carried}
 use Rattle.sheet.specs.Ranges.{most_rows, most_processors}
 use Rattle.board.specs.declared.Job.{Job}
 use Rattle.board.specs.declared.State.{State}
-use Rattle.board.specs.declared.Beat.{Beat}
-use Rattle.board.specs.declared.Token.{Token}
-use Rattle.board.specs.declared.Token.TheVariants.{Nobody, Processor}
 use Rattle.board.specs.States.{job_at}
-use Rattle.board.specs.Calls.{start_of, release_of, tick_of}
+use Rattle.board.specs.Calls.{start_of, release_of, tick_of, Said, said}
 use Rattle.bench.specs.Digest.{mix}
 
 -- The token's processor; past all of them where nobody has it.
-abbrev pub token_number : Token → ℕ
-token_number Nobody = most_processors
-token_number (Processor p) = p
+abbrev pub token_number : Option ℕ → ℕ
+token_number None = most_processors
+token_number (Some p) = p
 
-unfoldable pub mix_beat : ℕ → Beat → ℕ
+unfoldable pub mix_beat : ℕ → Said → ℕ
 mix_beat digest beat = mix (mix (mix digest beat.refusal.number) (token_number beat.token)) beat.completed
 
 unfoldable pub mix_job : ℕ → Job → ℕ
@@ -35,10 +33,10 @@ pub record Run : Type 0 where
 
 unfoldable pub with_release : Run → ℕ → Run
 with_release run row =
-    record { state = (release_of run.state row).state; digest = mix run.digest (release_of run.state row).answer.number }
+    record { state = (release_of run.state row).state; digest = mix run.digest (carried (release_of run.state row).answer).number }
 
 unfoldable pub with_tick : Run → Run
-with_tick run = record { state = (tick_of run.state).state; digest = mix_beat run.digest (tick_of run.state).answer }
+with_tick run = record { state = (tick_of run.state).state; digest = mix_beat run.digest (said (tick_of run.state).answer) }
 
 -- The call at a place of its round.
 unfoldable pub with_call : (releases place : ℕ) → Run → Run
@@ -50,7 +48,7 @@ with_calls releases round zero run = run
 with_calls releases round (suc j) run = with_call releases (j % round) (with_calls releases round j run)
 
 unfoldable pub begin : List ℕ → Run
-begin sheet = record { state = (start_of sheet).state; digest = (start_of sheet).refusal.number }
+begin sheet = record { state = (start_of sheet).state; digest = (carried (start_of sheet).refusal).number }
 
 unfoldable pub outcome : Run → ℕ
 outcome run = mix_jobs run.digest run.state most_rows

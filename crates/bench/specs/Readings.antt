@@ -5,6 +5,7 @@ use Rattle.sheet.specs.declared.Row.{Row}
 use Rattle.sheet.specs.declared.Set.{Set}
 use Rattle.sheet.specs.declared.Refusal.{Refusal}
 use Rattle.sheet.specs.declared.Reading.{Reading}
+use Rattle.sheet.specs.Refusals.{carried}
 use Rattle.sheet.specs.Ranges.{most_rows, row_in}
 use Rattle.sheet.specs.Reading.{read_sheet}
 use Rattle.bench.specs.Digest.{digests, mix}
@@ -16,7 +17,7 @@ unfoldable pub mix_counts : ℕ → Set → ℕ
 mix_counts digest set = mix (mix digest set.processors) (set.count % digests)
 
 unfoldable pub mix_reading : ℕ → Reading → ℕ
-mix_reading digest reading = mix_counts (mix_refusal digest reading.refusal) reading.set
+mix_reading digest reading = mix_counts (mix_refusal digest (carried reading.refusal)) reading.set
 
 unfoldable pub mix_row : ℕ → Row → ℕ
 mix_row digest row =

@@ -2,6 +2,8 @@
 ghost use Rattle.std.specs.Prelude.{◌≡◌, length};
 ghost use Rattle.analysis.specs.Analysis.{analyse_refusal, analysed};
 
+use crate::answers::carried;
+
 pub fn bench_analyse(
     sheet: &[u8],
     bounds: &mut [u32],
@@ -14,7 +16,7 @@ pub fn bench_analyse(
     ensures row_after { row.new ≡ (analyse_refusal sheet.now (length bounds.old)).row }
     ensures instance_after { instance.new ≡ (analyse_refusal sheet.now (length bounds.old)).instance }
 {
-    let refusal = analysis::analyse(sheet, bounds);
+    let refusal = carried(analysis::analyse(sheet, bounds));
     *number = refusal.number;
     *row = refusal.row;
     *instance = refusal.instance;

@@ -2,6 +2,7 @@
 #![tactic(auto)]
 
 pub mod analyses;
+pub mod answers;
 pub mod calls;
 pub mod digest;
 pub mod readings;

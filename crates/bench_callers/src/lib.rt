@@ -5,52 +5,27 @@
 ghost use Rattle.std.specs.Prelude.{◌≡◌};
 ghost use Rattle.bench.specs.Calls.{with_calls, begin, outcome};
 
-use bench::calls::{beat_mixed, place_in, state_mixed};
-use bench::digest::mixed;
+use bench::answers::number_of;
+use bench::calls::{place_in, state_mixed};
+use bench::make_call;
 
+// Two loops, one for each half of the calls: of two branches in one loop the compiler could make one.
+#[tactic(auto, unfolding(bench::specs::Calls::with_calls, bench::specs::Calls::with_call, bench::specs::Calls::with_release, bench::specs::Calls::with_tick, bench::specs::Calls::begin, bench::specs::Calls::outcome))]
 #[unsafe(no_mangle)]
 pub extern "C" fn bench_callers(sheet: &[u8], releases: u32, round: u32, calls: u32) -> u32
     ensures { result ≡ outcome (with_calls releases round calls (begin sheet.now)) }
 {
     let started = board::start(sheet);
-    let refusal = started.refusal;
     let mut state = started.state;
-    let mut digest = refusal.number as u32;
+    let mut digest = number_of(started.refusal);
     let half = calls / 2;
-    let mut call: u32 = 0;
-    while call < half {
+    for call in 0..half {
         let place = place_in(round, call);
-        if place < releases {
-            let released = state.release(place as usize);
-            let answer = released.answer;
-            let next = released.state;
-            digest = mixed(digest, answer.number as u32);
-            state = next;
-        } else {
-            let ticked = state.tick();
-            let beat = ticked.answer;
-            let next = ticked.state;
-            digest = beat_mixed(digest, beat);
-            state = next;
-        }
-        call += 1;
+        make_call!(state, digest, place, releases);
     }
-    while call < calls {
+    for call in half..calls {
         let place = place_in(round, call);
-        if place < releases {
-            let released = state.release(place as usize);
-            let answer = released.answer;
-            let next = released.state;
-            digest = mixed(digest, answer.number as u32);
-            state = next;
-        } else {
-            let ticked = state.tick();
-            let beat = ticked.answer;
-            let next = ticked.state;
-            digest = beat_mixed(digest, beat);
-            state = next;
-        }
-        call += 1;
+        make_call!(state, digest, place, releases);
     }
     state_mixed(digest, state)
 }

@@ -1,15 +1,16 @@
 -- The check of a state, as the loops of the calls make it: the head, then row by row, then hand by hand. It says the shape.
 use Prim.Native.Nat.{ℕ, ◌+◌, ◌%◌, ◌≤◌, ◌<◌}
-use mathlib.Core.Path.{◌≡◌, refl, sym, ap, subst, ◌∙◌}
-use mathlib.Core.Bool.{Bool, true, false, ◌&&◌, and-true, and_assoc, and-eq-true_iff}
+use mathlib.Core.Path.{◌≡◌, refl, sym, ap, ◌∙◌}
+use mathlib.Core.Bool.{Bool, true, false, ◌&&◌, and-eq-true_iff}
 use native.Mathlib.Omega.{arith}
 use native.Mathlib.Decide.{dec_lt}
 use native.Mathlib.Numerals.{add-one}
-use lib.ListN.{get_or}
 use lib.Dec.{ltb, eqb}
+use borrow.Author.Count.{below_more}
 use borrow.Author.Tests.{ltb-true, leb-true, eqb-true, lt-ltb, le-ltb, le-leb, eq-eqb}
-use Rattle.laws.specs.Search.{all_from, all}
-use Rattle.laws.specs.SearchLaws.{all_at, all_of, all_more, all_stays}
+use Rattle.std.specs.Prelude.{Option, Some, None}
+use Rattle.laws.specs.Search.{all}
+use Rattle.laws.specs.SearchLaws.{all_at, all_of}
 use Rattle.laws.specs.Choice.{pick}
 use Rattle.laws.specs.ChoiceLaws.{pick_true, pick_false, true_not_false, both_ways}
 use Rattle.sheet.specs.Ranges.{most_processors, most_rows, row_in, before, row_fault, set_row_fault, first_fault, set_refusal}
@@ -18,10 +19,9 @@ use Rattle.sheet.specs.declared.Refusal.{Refusal}
 use Rattle.sheet.proofs.Faults as faults
 use Rattle.sheet.proofs.WritingLaws as writing
 use Rattle.board.specs.declared.State.{State}
-use Rattle.board.specs.declared.Hand.{Hand}
-use Rattle.board.specs.declared.Hand.TheVariants.{Free, Holds}
-use Rattle.board.specs.States.{free_place, row_at, job_at, hand_at, processor_at}
+use Rattle.board.specs.States.{row_at, job_at, hand_at, processor_at}
 use Rattle.board.specs.Shape.{set_passes, row_fits, hand_fits, shape_ok}
+use Rattle.board.proofs.Standings.{not_so}
 use Rattle.board.specs.Parts.{row_or, hand_is_own, head_fits, part_fits, part_is_zero}
 
 -- A set without a fault passes.
@@ -32,7 +32,7 @@ set_passes_lem set c r =
     (faults.or_second _ (first_fault (set_row_fault set) set.count) (faults.counts_clear _ _ c) ∙ faults.no_fault (set_row_fault set) set.count r)
 
 module _ (s : State) where
-  -- The tests: of the head, of row i with the hand of its processor, and of processor p's hand. The code reads places and rows at
+  -- The tests: of the head, of row i with the hand of its processor, and of processor p's hand. The code reads hands and rows at
   -- indices that are below 8 and 32 whatever the state.
   abbrev pub head_passes : Bool
   head_passes = head_fits s.set.processors s.set.count s.clock
@@ -40,7 +40,7 @@ module _ (s : State) where
   abbrev pub part_passes : ℕ → Bool
   part_passes i =
       pick (ltb i s.set.count)
-      (part_fits s.set.processors (before (row_in s.set) i) s.clock i (row_at s i) (get_or s.places (processor_at s i % 8) free_place) (job_at s i))
+      (part_fits s.set.processors (before (row_in s.set) i) s.clock i (row_at s i) (hand_at s (processor_at s i % 8)) (job_at s i))
       (part_is_zero (row_at s i) (job_at s i))
 
   abbrev pub hand_passes : ℕ → Bool
@@ -64,10 +64,10 @@ module _ (s : State) where
           rw (lt-ltb i s.set.count l, eq-eqb _ _ (e l), here)
       go (no l) = rw (le-ltb i s.set.count (omega arith))
 
-  hand_is : (p : ℕ) (h : Hand) → s.set.count ≤ most_rows → hand_is_own h (processor_at s (row_or h 0 % 32)) p s.set.count s.set.processors ≡ hand_fits s p h
+  hand_is : (p : ℕ) (h : Option ℕ) → s.set.count ≤ most_rows → hand_is_own h (processor_at s (row_or h 0 % 32)) p s.set.count s.set.processors ≡ hand_fits s p h
   unfolding hand_fits
-  hand_is p Free few = refl
-  hand_is p (Holds i) few = go (ltb i s.set.count) refl
+  hand_is p None few = refl
+  hand_is p (Some i) few = go (ltb i s.set.count) refl
     where
       go : (b : Bool) → ltb i s.set.count ≡ b → (b && eqb (processor_at s (i % 32)) p && ltb p s.set.processors) ≡ (b && eqb (processor_at s i) p && ltb p s.set.processors)
       go true e =
@@ -112,115 +112,70 @@ module _ (s : State) where
   pub check_is_shape : hands_pass most_processors ≡ shape_ok s
   check_is_shape = both_ways _ _ passes_shape shape_passes
 
--- A loop that tests at each place below `most`, after a first test: what it keeps true.
-pub record Tested (first : Bool) (test : ℕ → Bool) (most : ℕ) (fits : Bool) (i : ℕ) : Type 0 where
-  pub within : i ≤ most
-  pub fits_is : fits ≡ (first && all i test)
-
-pub tested_none : (first : Bool) (test : ℕ → Bool) (most : ℕ) (fits : Bool) → fits ≡ first → Tested first test most fits 0
-unfolding all_from
-tested_none first test most fits e = record { within = omega arith; fits_is = e ∙ sym (and-true first) }
-
-pub tested_more : (first : Bool) (test : ℕ → Bool) (most : ℕ) (fits passes : Bool) (i : ℕ) → Tested first test most fits i → i < most → passes ≡ test i → Tested first test most (fits && passes) (i + 1)
-tested_more first test most fits passes i c l e =
-    record { within = omega arith; fits_is = rw (c.fits_is, e, all_more i test) (and_assoc first (all i test) (test i)) }
-
--- It may end where a test has failed.
-pub tested_all : (first : Bool) (test : ℕ → Bool) (most : ℕ) (fits : Bool) (i : ℕ) → Tested first test most fits i → (fits ≡ true → most ≤ i) → fits ≡ (first && all most test)
-tested_all first test most fits i c end = go fits refl
-  where
-    go : (b : Bool) → fits ≡ b → fits ≡ (first && all most test)
-    go true e =
-        let at_end : i ≡ most = omega (arith, c.within, end e) in
-        c.fits_is ∙ ap (λ (x : ℕ). first && all x test) at_end
-    go false e = e ∙ sym (failed first (sym c.fits_is ∙ e))
-      where
-        failed : (b : Bool) → (b && all i test) ≡ false → (b && all most test) ≡ false
-        failed true f = all_stays test i most c.within f
-        failed false f = refl
-
--- The conditions of the loops over the n rows and over what is past them.
-abbrev pub rows_go_on : ℕ → Bool → ℕ → Bool
-rows_go_on n fits i = ltb i most_rows && ltb i n && fits
-
-pub rows_below : (n : ℕ) (fits : Bool) (i : ℕ) → rows_go_on n fits i ≡ true → i < most_rows
-rows_below n fits i g = ltb-true i most_rows ((and-eq-true_iff _ _).0 ((and-eq-true_iff _ _).0 g).0).0
-
-abbrev pub past_go_on : Bool → ℕ → Bool
-past_go_on fits i = ltb i most_rows && fits
-
-pub past_below : (fits : Bool) (i : ℕ) → past_go_on fits i ≡ true → i < most_rows
-past_below fits i g = ltb-true i most_rows ((and-eq-true_iff _ _).0 g).0
-
 module _ (s : State) where
-  -- The loop over the rows: `fits` says that the head and the rows below i pass, `last` is the processor of the row before i.
-  pub record RowsTested (fits : Bool) (last i : ℕ) : Type 0 where
-    pub tested : Tested (head_passes s) (part_passes s) most_rows fits i
+  -- A head that passes has at most 32 rows.
+  few_rows : head_passes s ≡ true → s.set.count ≤ most_rows
+  few_rows h = let f = simp and-eq-true_iff at h in leb-true _ _ f.0.1
+
+  -- The loop over the n rows: the head and the rows below i pass, and `last` is the processor of the row before i.
+  pub record RowsPassed (last i : ℕ) : Type 0 where
+    pub head : head_passes s ≡ true
+    pub rows : (k : ℕ) → k < i → part_passes s k ≡ true
     pub last_is : last ≡ before (row_in s.set) i
 
-  pub rows_none : (fits : Bool) → fits ≡ head_passes s → RowsTested fits 0 0
-  rows_none fits e = record { tested = tested_none _ _ _ fits e; last_is = refl }
+  pub rows_none : (fits : Bool) → fits ≡ head_passes s → fits ≡ true → RowsPassed 0 0
+  rows_none fits e f = record { head = sym e ∙ f; rows = λ k l. absurd (omega (arith, l)); last_is = refl }
 
-  pub rows_more : (fits : Bool) (last i : ℕ) → RowsTested fits last i → rows_go_on s.set.count fits i ≡ true
-      → (passes : Bool)
-      → passes ≡ part_fits s.set.processors last s.clock i (row_at s i) (get_or s.places (processor_at s i % 8) free_place) (job_at s i)
-      → RowsTested passes (processor_at s i) (i + 1)
-  rows_more fits last i c g passes e =
-      let f = simp and-eq-true_iff at g in
-      let here = (rw c.last_is at e) ∙ sym (pick_true (ltb i s.set.count) _ _ f.0.1) in
+  module _ (last i : ℕ) (c : RowsPassed last i) (l : i < s.set.count) where
+    pub row_below : i < most_rows
+    row_below = omega (arith, few_rows c.head, l)
+
+    -- the test of row i
+    pub row_is : (passes : Bool)
+        → passes ≡ part_fits s.set.processors last s.clock i (row_at s i) (hand_at s (processor_at s i % 8)) (job_at s i)
+        → passes ≡ part_passes s i
+    row_is passes e = (rw c.last_is at e) ∙ sym (pick_true (ltb i s.set.count) _ _ (lt-ltb _ _ l))
+
+    pub rows_more : part_passes s i ≡ true → RowsPassed (processor_at s i) (i + 1)
+    rows_more e = record { head = c.head; rows = below_more _ _ c.rows e; last_is = rw add-one }
+
+  -- The loop over what is past n goes on from there.
+  pub record PastPassed (i : ℕ) : Type 0 where
+    pub head : head_passes s ≡ true
+    pub rows : (k : ℕ) → k < i → part_passes s k ≡ true
+
+  pub past_is : (i : ℕ) → s.set.count ≤ i → (passes : Bool) → passes ≡ part_is_zero (row_at s i) (job_at s i) → passes ≡ part_passes s i
+  past_is i l passes e = e ∙ sym (pick_false (ltb i s.set.count) _ _ (le-ltb i s.set.count l))
+
+  -- The loop over the hands goes on from there.
+  pub record HandsPassed (p : ℕ) : Type 0 where
+    pub all_rows : rows_pass s most_rows ≡ true
+    pub hands : (q : ℕ) → q < p → hand_passes s q ≡ true
+
+  pub hands_none : (i : ℕ) → PastPassed i → most_rows ≤ i → HandsPassed 0
+  hands_none i c end =
       record {
-        tested = subst (λ (b : Bool). Tested (head_passes s) (part_passes s) most_rows (b && passes) (i + 1)) f.1 (tested_more _ _ _ fits passes i c.tested (ltb-true _ _ f.0.0) here);
-        last_is = rw add-one;
+        all_rows = (and-eq-true_iff _ _).1 (c.head, all_of most_rows (part_passes s) (λ k l. c.rows k (omega (arith, l, end))));
+        hands = λ q l. absurd (omega (arith, l));
       }
 
-  -- The loop over what is past n goes on from there: as long as all has passed, it is at n or beyond.
-  pub record PastTested (fits : Bool) (i : ℕ) : Type 0 where
-    pub tested : Tested (head_passes s) (part_passes s) most_rows fits i
-    pub past : fits ≡ true → i < most_rows → s.set.count ≤ i
+  -- At its end the state has the shape,
+  pub hands_all : (p : ℕ) → HandsPassed p → most_processors ≤ p → shape_ok s ≡ true
+  hands_all p c end =
+      sym (check_is_shape s) ∙ (and-eq-true_iff _ _).1 (c.all_rows, all_of most_processors (hand_passes s) (λ q l. c.hands q (omega (arith, l, end))))
 
-  pub past_none : (fits : Bool) (last i : ℕ) → RowsTested fits last i → rows_go_on s.set.count fits i ≡ false → PastTested fits i
-  past_none fits last i c g = record { tested = c.tested; past = λ e l. go e l (dec_lt i s.set.count) }
-    where
-      go : fits ≡ true → i < most_rows → Dec (i < s.set.count) → s.set.count ≤ i
-      go e l (yes m) = true_not_false _ (simp (lt-ltb i most_rows l, lt-ltb i s.set.count m, e)) g
-      go e l (no m) = omega arith
+  -- and where a test fails it has not.
+  shape_all : shape_ok s ≡ true → (head_passes s ≡ true) × (all most_rows (part_passes s) ≡ true) × (all most_processors (hand_passes s) ≡ true)
+  shape_all h =
+      let f = (and-eq-true_iff _ _).0 (check_is_shape s ∙ h) in
+      let g = (and-eq-true_iff _ _).0 f.0 in
+      (g.0, g.1, f.1)
 
-  -- Of a state of the shape all n rows have been gone through.
-  pub rows_ended : (fits : Bool) (last i : ℕ) → RowsTested fits last i → rows_go_on s.set.count fits i ≡ false → shape_ok s ≡ true → s.set.count ≤ i
-  rows_ended fits last i c g h = go fits refl (dec_lt i most_rows)
-    where
-      all_pass : rows_pass s most_rows ≡ true
-      all_pass = ((and-eq-true_iff _ _).0 (shape_passes s h)).0
+  pub head_fails : (fits : Bool) → fits ≡ head_passes s → fits ≡ false → shape_ok s ≡ false
+  head_fails fits e f = not_so _ (λ h. true_not_false _ (shape_all h).0 (sym e ∙ f))
 
-      go : (b : Bool) → fits ≡ b → Dec (i < most_rows) → s.set.count ≤ i
-      go true e (yes l) = (past_none fits last i c g).past e l
-      go true e (no l) =
-          let f = simp and-eq-true_iff at all_pass in
-          let few : s.set.count ≤ most_rows = leb-true _ _ f.0.0.1 in
-          omega arith
-      go false e l = true_not_false _ all_pass (sym (tested_all _ _ _ fits i c.tested (λ t. true_not_false fits t e)) ∙ e)
+  pub part_fails : (i : ℕ) → i < most_rows → part_passes s i ≡ false → shape_ok s ≡ false
+  part_fails i l f = not_so _ (λ h. true_not_false _ (all_at most_rows (part_passes s) i (shape_all h).1 l) f)
 
-  pub past_more : (fits : Bool) (i : ℕ) → PastTested fits i → past_go_on fits i ≡ true → (passes : Bool) → passes ≡ part_is_zero (row_at s i) (job_at s i) → PastTested passes (i + 1)
-  past_more fits i c g passes e =
-      let f = (and-eq-true_iff _ _).0 g in
-      let l = ltb-true _ _ f.0 in
-      let n = c.past f.1 l in
-      let here = e ∙ sym (pick_false (ltb i s.set.count) _ _ (le-ltb i s.set.count n)) in
-      record {
-        tested = subst (λ (b : Bool). Tested (head_passes s) (part_passes s) most_rows (b && passes) (i + 1)) f.1 (tested_more _ _ _ fits passes i c.tested l here);
-        past = λ z m. omega (arith, n);
-      }
-
-  -- The loop over the hands goes on from there, and at its end `fits` says the shape.
-  abbrev pub HandsTested : Bool → ℕ → Type 0
-  HandsTested fits p = Tested (rows_pass s most_rows) (hand_passes s) most_processors fits p
-
-  pub hands_none : (fits : Bool) (i : ℕ) → PastTested fits i → past_go_on fits i ≡ false → HandsTested fits 0
-  hands_none fits i c g = tested_none _ _ _ fits (tested_all _ _ _ fits i c.tested (λ e. go e (dec_lt i most_rows)))
-    where
-      go : fits ≡ true → Dec (i < most_rows) → most_rows ≤ i
-      go e (yes l) = true_not_false _ ((and-eq-true_iff _ _).1 (lt-ltb i most_rows l, e)) g
-      go e (no l) = omega arith
-
-  pub hands_all : (fits : Bool) (p : ℕ) → HandsTested fits p → most_processors ≤ p → fits ≡ shape_ok s
-  hands_all fits p c l = tested_all _ _ _ fits p c (λ e. l) ∙ check_is_shape s
+  pub hand_fails : (p : ℕ) → p < most_processors → hand_passes s p ≡ false → shape_ok s ≡ false
+  hand_fails p l f = not_so _ (λ h. true_not_false _ (all_at most_processors (hand_passes s) p (shape_all h).2 l) f)

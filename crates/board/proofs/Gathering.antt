@@ -11,6 +11,7 @@ use lib.Count.{count_trailing_zeros}
 use lib.ListN.{length, get_or, set, length-set, replicate, length-replicate, get_or-replicate}
 use lib.Seq.{get_or-set_same, get_or-set_other}
 use lib.Dec.{ltb, eqb}
+use Rattle.std.specs.Prelude.{Option, Some, None}
 use Rattle.laws.specs.ChoiceLaws.{pick_true, pick_false}
 use Rattle.laws.specs.Words.{word, word_from}
 use Rattle.laws.specs.WordLaws.{lowest_is_first, set_bit, clear_bit}
@@ -18,8 +19,6 @@ use Rattle.laws.specs.BitLaws.{word_same, word_past}
 use Rattle.sheet.specs.Ranges.{most_processors, most_rows}
 use Rattle.board.specs.declared.Job.{Job}
 use Rattle.board.specs.declared.State.{State}
-use Rattle.board.specs.declared.Hand.{Hand}
-use Rattle.board.specs.declared.Hand.TheVariants.{Free, Holds}
 use Rattle.board.specs.States.{hand_at, processor_at, standing_at, is_waiting}
 use Rattle.board.specs.Rules.{waits_on, first_waiting, takes, hand_taken}
 use Rattle.board.specs.Parts.{row_or}
@@ -87,18 +86,18 @@ module _ (s : State) where
       unfolding first_waiting
       lowest = ap (count_trailing_zeros most_rows) m ∙ lowest_is_first most_rows (waits_on s p)
 
-      pub takes_row : (row : ℕ) → row ≡ row_or (hand_at s p) (count_trailing_zeros most_rows mask) → row < most_rows → hand_taken s p ≡ Holds row
+      pub takes_row : (row : ℕ) → row ≡ row_or (hand_at s p) (count_trailing_zeros most_rows mask) → row < most_rows → hand_taken s p ≡ Some row
       unfolding hand_taken
       takes_row row e b = go (hand_at s p) (e ∙ ap (row_or (hand_at s p)) lowest)
         where
-          go : (h : Hand) → row ≡ row_or h (first_waiting s p) → takes h (first_waiting s p) ≡ Holds row
-          go Free e = pick_true (ltb (first_waiting s p) most_rows) _ _ (lt-ltb (first_waiting s p) most_rows (omega (arith, e))) ∙ ap Holds (sym e)
-          go (Holds j) e = ap Holds (sym e)
+          go : (h : Option ℕ) → row ≡ row_or h (first_waiting s p) → takes h (first_waiting s p) ≡ Some row
+          go None e = pick_true (ltb (first_waiting s p) most_rows) _ _ (lt-ltb (first_waiting s p) most_rows (omega (arith, e))) ∙ ap Some (sym e)
+          go (Some j) e = ap Some (sym e)
 
-      pub takes_none : (row : ℕ) → row ≡ row_or (hand_at s p) (count_trailing_zeros most_rows mask) → most_rows ≤ row → hand_taken s p ≡ Free
+      pub takes_none : (row : ℕ) → row ≡ row_or (hand_at s p) (count_trailing_zeros most_rows mask) → most_rows ≤ row → hand_taken s p ≡ None
       unfolding hand_taken
       takes_none row e b = go (hand_at s p) refl (e ∙ ap (row_or (hand_at s p)) lowest)
         where
-          go : (h : Hand) → hand_at s p ≡ h → row ≡ row_or h (first_waiting s p) → takes h (first_waiting s p) ≡ Free
-          go Free a e = pick_false (ltb (first_waiting s p) most_rows) _ _ (le-ltb (first_waiting s p) most_rows (omega (arith, e)))
-          go (Holds j) a e = absurd (omega (arith, e, below_most s k j (subst (OwnHand s.set p) a (k.hand p l)).0))
+          go : (h : Option ℕ) → hand_at s p ≡ h → row ≡ row_or h (first_waiting s p) → takes h (first_waiting s p) ≡ None
+          go None a e = pick_false (ltb (first_waiting s p) most_rows) _ _ (le-ltb (first_waiting s p) most_rows (omega (arith, e)))
+          go (Some j) a e = absurd (omega (arith, e, below_most s k j (subst (OwnHand s.set p) a (k.hand p l)).0))

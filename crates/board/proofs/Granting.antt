@@ -65,6 +65,14 @@ module _ (n : ℕ) (memory : ℕ → Bool) (from : ℕ) (most : from ≤ n) (fit
   before_held : (p : ℕ) → (from ≡ n → ⊥) → before p ≡ from
   before_held p d = rw (ne_eqb from n d)
 
+  pub token_most : (p : ℕ) → p ≤ n → before p ≤ n
+  token_most p l = go (ℕ_discrete from n) (dec_lt top p)
+    where
+      go : Dec (from ≡ n) → Dec (top < p) → before p ≤ n
+      go (yes e) (yes f) = omega (arith, before_past p e f, f, l)
+      go (yes e) (no f) = omega (arith, before_free p e (omega arith))
+      go (no d) f = omega (arith, before_held p d, most)
+
   -- It starts where the token is,
   pub token_starts : from ≡ before 0
   token_starts = go (ℕ_discrete from n)

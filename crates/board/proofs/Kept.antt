@@ -6,19 +6,20 @@ use native.Mathlib.Omega.{arith}
 use native.Mathlib.Decide.{ℕ_discrete}
 use lib.Dec.{ltb}
 use borrow.Author.Tests.{ltb-false, leb-false, eqb-false, not-false, not-true, eq-eqb, ne_eqb}
+use Rattle.std.specs.Prelude.{Option}
 use Rattle.laws.specs.ChoiceLaws.{past, passed, given, pick_true, pick_false, true_not_false}
-use Rattle.sheet.specs.Refusals.{LIVE, accepted, refused}
+use Rattle.sheet.specs.Refusals.{LIVE, accepted, refused, carried, answered}
 use Rattle.sheet.specs.Ranges.{most_rows, row_in, WellFormed}
 use Rattle.sheet.specs.declared.Set.{Set}
 use Rattle.sheet.specs.declared.Refusal.{Refusal}
+use Rattle.sheet.proofs.AnswerLaws.{carried_answer}
 use Rattle.sheet.proofs.RoundTrip.{well_formed_taken}
 use Rattle.board.specs.declared.State.{State}
 use Rattle.board.specs.declared.Ticked.{Ticked}
-use Rattle.board.specs.declared.Hand.{Hand}
 use Rattle.board.specs.declared.Standing.TheVariants.{Absent}
 use Rattle.board.specs.States.{most_clock, row_at, job_at, standing_at, is_absent, holds, in_hand, start_set}
-use Rattle.board.specs.Rules.{taken, has_token, ran}
-use Rattle.board.specs.Calls.{is_early, release_number, waiting_from, released, release_of, tick_number, ticked, unticked, tick_of}
+use Rattle.board.specs.Rules.{taken, token_at, token_named, has_token, ran, completed_rows}
+use Rattle.board.specs.Calls.{is_early, release_number, waiting_from, released, release_of, tick_number, ticked, unticked, tick_of, said, refused_beat}
 use Rattle.board.proofs.ShapeFacts.{Stands, Kept, Shaped, shaped, set_well_formed, absent_facts}
 use Rattle.board.proofs.Pointwise.{taken_clock, taken_set, ran_set, released_job, released_other, released_set, start_job, start_hand, start_set_lem, start_clock}
 use Rattle.board.proofs.Taking.{take_keeps}
@@ -120,7 +121,7 @@ start_keeps set w =
           worst = omega arith;
           completed = omega arith;
           never = λ e. refl;
-          standing = ap (λ (h : Hand). holds h i) (start_hand set (row_in set i).processor (omega (arith, (w.row i l).below, w.processors_most)));
+          standing = ap (λ (h : Option ℕ). holds h i) (start_hand set (row_in set i).processor (omega (arith, (w.row i l).below, w.processors_most)));
         })
 
 -- Any release and any tick keep the shape; refused ones change nothing.
@@ -132,9 +133,12 @@ pub release_accepted : (s : State) (i : ℕ) → release_number s i ≡ 0 → (r
 unfolding release_of
 release_accepted s i h = pick_true _ _ _ (eq-eqb _ _ h)
 
-pub release_answer : (s : State) (i : ℕ) → (release_of s i).answer ≡ refused (release_number s i) 0
+pub release_answer : (s : State) (i : ℕ) → (release_of s i).answer ≡ answered (refused (release_number s i) 0)
 unfolding release_of
 release_answer s i = refl
+
+pub release_carried : (s : State) (i : ℕ) → carried (release_of s i).answer ≡ refused (release_number s i) 0
+release_carried s i = ap carried (release_answer s i) ∙ carried_answer (refused (release_number s i) 0) (record { no_row = λ h. refl; no_instance = λ h. refl })
 
 pub tick_refused : (s : State) → (tick_number s ≡ 0 → ⊥) → tick_of s ≡ unticked s (tick_number s)
 unfolding tick_of
@@ -199,6 +203,10 @@ found_live s i h =
       live = not-true _ (given _ _ p3.1);
     }
 
-pub tick_answer : (s : State) → (ticked s).answer.refusal ≡ accepted
+-- What a tick's answer says.
+pub tick_answer : (s : State) → said (ticked s).answer ≡ record { refusal = accepted; token = token_named (token_at (taken s)); completed = completed_rows (taken s) }
 unfolding ticked
 tick_answer s = refl
+
+pub tick_refused_answer : (s : State) → (tick_number s ≡ 0 → ⊥) → said (tick_of s).answer ≡ refused_beat (tick_number s)
+tick_refused_answer s h = ap (λ (x : Ticked). said x.answer) (tick_refused s h)

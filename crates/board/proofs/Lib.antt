@@ -15,3 +15,4 @@ pub mod Gathering
 pub mod Granting
 pub mod Turning
 pub mod Answers
+pub mod Faults

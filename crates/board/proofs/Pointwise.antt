@@ -1,26 +1,24 @@
 -- The states that the rules make, read at one row or one processor.
-use mathlib.Core.Path.{◌≡◌, refl, ap, ◌∙◌}
+use mathlib.Core.Path.{◌≡◌, refl, ◌∙◌}
 use mathlib.Core.Bool.{Bool}
 use Prim.Native.Nat.{ℕ, ◌+◌, ◌<◌}
 use lib.ListN.{get_or-replicate}
 use borrow.Author.Tests.{eq-eqb, ne_eqb}
+use Rattle.std.specs.Prelude.{Option, None}
 use Rattle.laws.specs.TabulateLaws.{get_d_tab}
 use Rattle.sheet.specs.Ranges.{most_processors, most_rows}
 use Rattle.sheet.specs.declared.Set.{Set}
 use Rattle.board.specs.declared.Job.{Job}
-use Rattle.board.specs.declared.Place.{Place}
 use Rattle.board.specs.declared.State.{State}
-use Rattle.board.specs.declared.Hand.{Hand}
-use Rattle.board.specs.declared.Hand.TheVariants.{Free}
-use Rattle.board.specs.States.{no_job, free_place, job_at, hand_at, start_set}
+use Rattle.board.specs.States.{no_job, job_at, hand_at, start_set}
 use Rattle.board.specs.Rules.{state_of, hand_taken, job_taken, taken, frees_by, job_run_by, ran_by}
 use Rattle.board.specs.Calls.{waiting_from, released}
 
-job_of : (s : State) (clock : ℕ) (hand : ℕ → Hand) (job : ℕ → Job) (i : ℕ) → i < most_rows → job_at (state_of s clock hand job) i ≡ job i
+job_of : (s : State) (clock : ℕ) (hand : ℕ → Option ℕ) (job : ℕ → Job) (i : ℕ) → i < most_rows → job_at (state_of s clock hand job) i ≡ job i
 job_of s clock hand job i l = get_d_tab most_rows job i no_job l
 
-hand_of : (s : State) (clock : ℕ) (hand : ℕ → Hand) (job : ℕ → Job) (p : ℕ) → p < most_processors → hand_at (state_of s clock hand job) p ≡ hand p
-hand_of s clock hand job p l = ap (λ (x : Place). x.hand) (get_d_tab most_processors (λ q. record { hand = hand q }) p free_place l)
+hand_of : (s : State) (clock : ℕ) (hand : ℕ → Option ℕ) (job : ℕ → Job) (p : ℕ) → p < most_processors → hand_at (state_of s clock hand job) p ≡ hand p
+hand_of s clock hand job p l = get_d_tab most_processors hand p None l
 
 -- Rule 1.
 pub taken_job : (s : State) (i : ℕ) → i < most_rows → job_at (taken s) i ≡ job_taken s i
@@ -82,9 +80,9 @@ pub start_job : (set : Set) (i : ℕ) → i < most_rows → job_at (start_set se
 unfolding start_set
 start_job set i l = get_or-replicate most_rows i no_job no_job l
 
-pub start_hand : (set : Set) (p : ℕ) → p < most_processors → hand_at (start_set set) p ≡ Free
+pub start_hand : (set : Set) (p : ℕ) → p < most_processors → hand_at (start_set set) p ≡ None
 unfolding start_set
-start_hand set p l = ap (λ (x : Place). x.hand) (get_or-replicate most_processors p free_place free_place l)
+start_hand set p l = get_or-replicate most_processors p None None l
 
 pub start_set_lem : (set : Set) → (start_set set).set ≡ set
 unfolding start_set

@@ -5,14 +5,13 @@ use mathlib.Core.Bool.{Bool, false}
 use native.Mathlib.Omega.{arith}
 use native.Mathlib.Decide.{dec_lt}
 use borrow.Author.Tests.{ne_eqb}
+use Rattle.std.specs.Prelude.{Option, Some, None}
 use Rattle.laws.specs.Choice.{pick}
 use Rattle.laws.specs.ChoiceLaws.{true_not_false}
 use Rattle.sheet.specs.Ranges.{most_processors, most_rows}
 use Rattle.sheet.specs.declared.Row.{Row}
 use Rattle.board.specs.declared.Job.{Job}
 use Rattle.board.specs.declared.State.{State}
-use Rattle.board.specs.declared.Hand.{Hand}
-use Rattle.board.specs.declared.Hand.TheVariants.{Free, Holds}
 use Rattle.board.specs.declared.Standing.{Standing}
 use Rattle.board.specs.declared.Standing.TheVariants.{Absent, Waiting, Memory, Computation}
 use Rattle.board.specs.States.{row_at, job_at, hand_at, processor_at, standing_at, holds, in_hand}
@@ -51,6 +50,6 @@ module _ (s : State) (k : Shaped s) where
   pub past_free : (i : ℕ) → i < most_rows → s.set.count ≤ i → in_hand s i ≡ false
   past_free i m l = go (hand_at s (processor_at s i)) (k.hand (processor_at s i) (on_board i m))
     where
-      go : (h : Hand) → OwnHand s.set (processor_at s i) h → holds h i ≡ false
-      go Free o = refl
-      go (Holds j) o = ne_eqb j i (λ q. absurd (omega (arith, q, o.0)))
+      go : (h : Option ℕ) → OwnHand s.set (processor_at s i) h → holds h i ≡ false
+      go None o = refl
+      go (Some j) o = ne_eqb j i (λ q. absurd (omega (arith, q, o.0)))

@@ -6,6 +6,7 @@ use native.Mathlib.Omega.{arith}
 use native.Mathlib.Decide.{dec_lt, ℕ_discrete}
 use lib.Dec.{eqb}
 use borrow.Author.Tests.{eqb-true, eqb-false, eq-eqb, ne_eqb}
+use Rattle.std.specs.Prelude.{Option, Some, None}
 use Rattle.laws.specs.Choice.{pick}
 use Rattle.laws.specs.ChoiceLaws.{true_not_false}
 use Rattle.laws.specs.Search.{first}
@@ -14,8 +15,6 @@ use Rattle.sheet.specs.Ranges.{most_processors, most_rows, computation_of, WellF
 use Rattle.sheet.specs.declared.Row.{Row}
 use Rattle.board.specs.declared.Job.{Job}
 use Rattle.board.specs.declared.State.{State}
-use Rattle.board.specs.declared.Hand.{Hand}
-use Rattle.board.specs.declared.Hand.TheVariants.{Free, Holds}
 use Rattle.board.specs.declared.Standing.{Standing}
 use Rattle.board.specs.declared.Standing.TheVariants.{Absent, Waiting, Memory, Computation}
 use Rattle.board.specs.States.{most_clock, no_job, row_at, job_at, hand_at, processor_at, standing_at, is_absent, is_memory, holds, in_hand}
@@ -179,21 +178,21 @@ module _ (has : ℕ → Bool) (s : State) (f : Shaped s) where
       none true = refl
       none false = refl
 
-      mine : (b : Bool) → holds (pick b Free (Holds i)) i ≡ pick b false (eqb i i)
+      mine : (b : Bool) → holds (pick b None (Some i)) i ≡ pick b false (eqb i i)
       mine true = refl
       mine false = refl
 
-      other : (k : ℕ) → eqb k i ≡ false → (b c : Bool) → holds (pick b Free (Holds k)) i ≡ pick c false (eqb k i)
+      other : (k : ℕ) → eqb k i ≡ false → (b c : Bool) → holds (pick b None (Some k)) i ≡ pick c false (eqb k i)
       other k e true true = refl
       other k e true false = sym e
       other k e false true = e
       other k e false false = refl
 
-      go : (h : Hand) → holds (frees_by has s h) i ≡ pick (completes_by has s i) false (holds h i)
-      go Free = none (completes_by has s i)
-      go (Holds k) = at (ℕ_discrete k i)
+      go : (h : Option ℕ) → holds (frees_by has s h) i ≡ pick (completes_by has s i) false (holds h i)
+      go None = none (completes_by has s i)
+      go (Some k) = at (ℕ_discrete k i)
         where
-          at : Dec (k ≡ i) → holds (pick (completes_by has s k) Free (Holds k)) i ≡ pick (completes_by has s i) false (eqb k i)
+          at : Dec (k ≡ i) → holds (pick (completes_by has s k) None (Some k)) i ≡ pick (completes_by has s i) false (eqb k i)
           at (yes d) = rw d (mine (completes_by has s i))
           at (no d) = other k (ne_eqb k i d) (completes_by has s k) (completes_by has s i)
 
@@ -205,13 +204,13 @@ module _ (has : ℕ → Bool) (s : State) (f : Shaped s) where
   unfolding frees_by
   hand_ran p l = go (hand_at s p) (f.hand p l)
     where
-      at : (i : ℕ) → OwnHand s.set p (Holds i) → (b : Bool) → OwnHand s.set p (pick b Free (Holds i))
+      at : (i : ℕ) → OwnHand s.set p (Some i) → (b : Bool) → OwnHand s.set p (pick b None (Some i))
       at i o true = tt
       at i o false = o
 
-      go : (h : Hand) → OwnHand s.set p h → OwnHand s.set p (frees_by has s h)
-      go Free o = tt
-      go (Holds i) o = at i o (completes_by has s i)
+      go : (h : Option ℕ) → OwnHand s.set p h → OwnHand s.set p (frees_by has s h)
+      go None o = tt
+      go (Some i) o = at i o (completes_by has s i)
 
   past_ran : (i : ℕ) → s.set.count ≤ i → i < most_rows → job_run_by has s i ≡ no_job
   unfolding job_run_by completes_by
@@ -225,7 +224,7 @@ module _ (has : ℕ → Bool) (s : State) (f : Shaped s) where
         set = f.set;
         clock = omega (arith, c);
         row = λ i l.
-            subst₂ (λ (h : Hand) (j : Job). Kept (s.clock + 1) (row_at s i) (holds h i) j)
+            subst₂ (λ (h : Option ℕ) (j : Job). Kept (s.clock + 1) (row_at s i) (holds h i) j)
             (sym (ran_hand has s (processor_at s i) (processor_most s f i l))) (sym (ran_job has s i (omega (arith, l, w.rows_most)))) (kept_ran i l);
         past = λ i l g. ((f.past i l g).0, ran_job has s i g ∙ past_ran i l g);
         hand = λ p l. subst (OwnHand s.set p) (sym (ran_hand has s p l)) (hand_ran p l);
@@ -240,7 +239,7 @@ module _ (s : State) (f : Shaped s) where
     pub in_memory : is_memory (standing_at s other) ≡ true
     pub token : has_token s other ≡ true
 
-  in_hand_is : (i : ℕ) → i < s.set.count → is_memory (standing_at s i) ≡ true → hand_at s (processor_at s i) ≡ Holds i
+  in_hand_is : (i : ℕ) → i < s.set.count → is_memory (standing_at s i) ≡ true → hand_at s (processor_at s i) ≡ Some i
   in_hand_is i l m = held_is _ i (go (standing_at s i) m (f.row i l).standing)
     where
       go : (st : Standing) → is_memory st ≡ true → Stands (row_at s i) (in_hand s i) st → in_hand s i ≡ true
@@ -249,13 +248,13 @@ module _ (s : State) (f : Shaped s) where
       go (Memory left) z o = o.0
       go (Computation left) z o = true_not_false _ z refl
 
-  memory_held : (p : ℕ) → in_memory s (hand_at s p) ≡ true → (k : ℕ) × (hand_at s p ≡ Holds k) × (is_memory (standing_at s k) ≡ true)
+  memory_held : (p : ℕ) → in_memory s (hand_at s p) ≡ true → (k : ℕ) × (hand_at s p ≡ Some k) × (is_memory (standing_at s k) ≡ true)
   unfolding in_memory
   memory_held p h = go (hand_at s p) refl h
     where
-      go : (x : Hand) → hand_at s p ≡ x → in_memory s x ≡ true → (k : ℕ) × (hand_at s p ≡ Holds k) × (is_memory (standing_at s k) ≡ true)
-      go Free e z = true_not_false _ z refl
-      go (Holds k) e z = (k, e, z)
+      go : (x : Option ℕ) → hand_at s p ≡ x → in_memory s x ≡ true → (k : ℕ) × (hand_at s p ≡ Some k) × (is_memory (standing_at s k) ≡ true)
+      go None e z = true_not_false _ z refl
+      go (Some k) e z = (k, e, z)
 
   pub token_over : (i : ℕ) → i < s.set.count → is_memory (standing_at s i) ≡ true → has_token s i ≡ false → TokenOver i
   unfolding has_token token_at in_memory
@@ -276,7 +275,7 @@ module _ (s : State) (f : Shaped s) where
           above : q < p → TokenOver i
           above h =
               let k = memory_held q (r.passes (omega (arith, h, processor_most s f i l))) in
-              let o : OwnHand s.set q (Holds k.0) = subst (OwnHand s.set q) k.1 (f.hand q (omega (arith, h, processor_most s f i l))) in
+              let o : OwnHand s.set q (Some k.0) = subst (OwnHand s.set q) k.1 (f.hand q (omega (arith, h, processor_most s f i l))) in
               record { other = k.0; below = o.0; over = omega (arith, h, o.1); in_memory = k.2; token = eq-eqb _ _ (o.1 ∙ sym e) }
 
           at : Dec (p < q) → Dec (p ≡ q) → TokenOver i

@@ -6,6 +6,7 @@ use native.Mathlib.Omega.{arith}
 use native.Mathlib.Decide.{dec_lt}
 use lib.Dec.{ltb}
 use borrow.Author.Tests.{ltb-true, leb-true, eqb-true, not-true, lt-ltb, le-ltb, le-leb, eq-eqb}
+use Rattle.std.specs.Prelude.{Option, Some, None}
 use Rattle.laws.specs.ChoiceLaws.{pick_true, pick_false, true_not_false, not_no}
 use Rattle.laws.specs.SearchLaws.{all_at, all_of}
 use Rattle.sheet.specs.Ranges.{most_processors, most_rows, memory_of, computation_of, set_refusal, set_row_fault, row_fault, zero_row, row_in, WellFormed}
@@ -15,8 +16,6 @@ use Rattle.sheet.proofs.Faults as faults
 use Rattle.sheet.proofs.WritingLaws as writing
 use Rattle.board.specs.declared.Job.{Job}
 use Rattle.board.specs.declared.State.{State}
-use Rattle.board.specs.declared.Hand.{Hand}
-use Rattle.board.specs.declared.Hand.TheVariants.{Free, Holds}
 use Rattle.board.specs.declared.Standing.{Standing}
 use Rattle.board.specs.declared.Standing.TheVariants.{Absent, Waiting, Memory, Computation}
 use Rattle.board.specs.States.{most_clock, no_job, row_at, job_at, hand_at, is_absent, in_hand}
@@ -38,9 +37,9 @@ pub record Kept (clock : ℕ) (row : Row) (held : Bool) (job : Job) : Type 0 whe
   pub standing : Stands row held job.standing
 
 -- A processor's hand.
-abbrev pub OwnHand : Set → ℕ → Hand → Type 0
-OwnHand set p Free = Unit {0}
-OwnHand set p (Holds i) = (i < set.count) × ((row_in set i).processor ≡ p) × (p < set.processors)
+abbrev pub OwnHand : Set → ℕ → Option ℕ → Type 0
+OwnHand set p None = Unit {0}
+OwnHand set p (Some i) = (i < set.count) × ((row_in set i).processor ≡ p) × (p < set.processors)
 
 pub record Shaped (s : State) : Type 0 where
   pub set : (set_refusal s.set).number ≡ 0
@@ -100,10 +99,10 @@ zero_row_lem r h =
     let d = eqb-true _ _ f.1 in
     λ j. record { processor = p j; memory = m j; computation = c j; period = t j; deadline = d j }
 
-hand_facts : (s : State) (p : ℕ) (hand : Hand) → hand_fits s p hand ≡ true → OwnHand s.set p hand
+hand_facts : (s : State) (p : ℕ) (hand : Option ℕ) → hand_fits s p hand ≡ true → OwnHand s.set p hand
 unfolding hand_fits
-hand_facts s p Free h = tt
-hand_facts s p (Holds i) h = let f = simp and-eq-true_iff at h in (ltb-true _ _ f.0.0, eqb-true _ _ f.0.1, ltb-true _ _ f.1)
+hand_facts s p None h = tt
+hand_facts s p (Some i) h = let f = simp and-eq-true_iff at h in (ltb-true _ _ f.0.0, eqb-true _ _ f.0.1, ltb-true _ _ f.1)
 
 row_facts : (s : State) (i : ℕ) → i < s.set.count → row_fits s i ≡ true → Kept s.clock (row_at s i) (in_hand s i) (job_at s i)
 unfolding row_fits
@@ -154,10 +153,10 @@ job_fits_lem clock row held job k =
     (both _ _ (both _ _ (both _ _ (le-leb _ _ k.last) (le-leb _ _ k.worst)) (le-leb _ _ k.completed)) (ever_fits job k.never))
     (standing_fits_lem row held job.standing k.standing)
 
-hand_fits_lem : (s : State) (p : ℕ) (hand : Hand) → OwnHand s.set p hand → hand_fits s p hand ≡ true
+hand_fits_lem : (s : State) (p : ℕ) (hand : Option ℕ) → OwnHand s.set p hand → hand_fits s p hand ≡ true
 unfolding hand_fits
-hand_fits_lem s p Free h = refl
-hand_fits_lem s p (Holds i) h = both _ _ (both _ _ (lt-ltb _ _ h.0) (eq-eqb _ _ h.1)) (lt-ltb _ _ h.2)
+hand_fits_lem s p None h = refl
+hand_fits_lem s p (Some i) h = both _ _ (both _ _ (lt-ltb _ _ h.0) (eq-eqb _ _ h.1)) (lt-ltb _ _ h.2)
 
 row_fits_lem : (s : State) → Shaped s → (i : ℕ) → i < most_rows → row_fits s i ≡ true
 unfolding row_fits job_is_zero row_is_zero absent_with_zeros

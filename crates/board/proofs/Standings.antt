@@ -8,12 +8,12 @@ use native.Mathlib.Omega.{arith}
 use lib.Dec.{eqb}
 use denote.Enum.Declared.{tag_of}
 use types.Run.{OneOf}
+use Rattle.std.specs.Prelude.{Some, None}
 use Rattle.laws.specs.Choice.{pick}
 use Rattle.laws.specs.ChoiceLaws.{true_not_false}
 use Rattle.sheet.specs.Ranges.{memory_of, computation_of}
 use Rattle.sheet.specs.declared.Row.{Row}
 use Rattle.board.specs.declared.Job.{Job}
-use Rattle.board.specs.declared.Hand.TheVariants.{Free, Holds}
 use Rattle.board.specs.declared.Standing.{Standing}
 use Rattle.board.specs.declared.Standing.TheVariants.{Absent, Waiting, Memory, Computation}
 use Rattle.board.specs.States.{is_absent, is_memory}
@@ -21,7 +21,7 @@ use Rattle.board.specs.Rules.{stand_as, begins, steps, finished}
 use Rattle.board.specs.Parts.{token_in, after_in, turn_of}
 use Rattle.board.specs.contracts.Standing.{the_type}
 
-pub no_hold : {A : Type 0} (i : ℕ) → Free ≡ Holds i → A
+pub no_hold : {A : Type 0} (i : ℕ) → None ≡ Some i → A
 no_hold i e = absurd (let z : ◌≡◌ {A = ℕ} 0 1 = cc in omega arith)
 
 pub not_so : (b : Bool) → (b ≡ true → ⊥) → b ≡ false
@@ -48,11 +48,11 @@ steps_any row a b (Computation left) h = refl
 
 -- A turn in which the job completes, and one in which it goes on.
 module _ (k : ℕ) (row : Row) (job : Job) (free : Bool) (clock : ℕ) (live : is_absent job.standing ≡ false) where
-  pub turn_done : is_absent (after_in row job free) ≡ true → turn_of k row job free clock ≡ record { job = finished clock job; place = record { hand = Free }; token = token_in row job free; done = true }
+  pub turn_done : is_absent (after_in row job free) ≡ true → turn_of k row job free clock ≡ record { job = finished clock job; hand = None; token = token_in row job free }
   unfolding turn_of
   turn_done h = simp (begins_live row job.standing live, h)
 
-  pub turn_on : is_absent (after_in row job free) ≡ false → turn_of k row job free clock ≡ record { job = stand_as job (after_in row job free); place = record { hand = Holds k }; token = token_in row job free; done = false }
+  pub turn_on : is_absent (after_in row job free) ≡ false → turn_of k row job free clock ≡ record { job = stand_as job (after_in row job free); hand = Some k; token = token_in row job free }
   unfolding turn_of
   turn_on h = simp (begins_live row job.standing live, h)
 

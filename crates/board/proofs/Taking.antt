@@ -7,6 +7,7 @@ use native.Mathlib.Omega.{arith}
 use native.Mathlib.Decide.{dec_lt, ℕ_discrete}
 use lib.Dec.{ltb, eqb}
 use borrow.Author.Tests.{eqb-true, eqb-false, eq-eqb, ne_eqb, lt-ltb, le-ltb}
+use Rattle.std.specs.Prelude.{Option, Some, None}
 use Rattle.laws.specs.Choice.{pick}
 use Rattle.laws.specs.ChoiceLaws.{pick_true, pick_false, true_not_false}
 use Rattle.laws.specs.Search.{first}
@@ -15,8 +16,6 @@ use Rattle.sheet.specs.Ranges.{most_processors, most_rows, memory_of, computatio
 use Rattle.sheet.specs.declared.Row.{Row}
 use Rattle.board.specs.declared.Job.{Job}
 use Rattle.board.specs.declared.State.{State}
-use Rattle.board.specs.declared.Hand.{Hand}
-use Rattle.board.specs.declared.Hand.TheVariants.{Free, Holds}
 use Rattle.board.specs.declared.Standing.{Standing}
 use Rattle.board.specs.declared.Standing.TheVariants.{Absent, Waiting, Memory, Computation}
 use Rattle.board.specs.States.{no_job, row_at, job_at, hand_at, processor_at, standing_at, is_waiting, holds, in_hand}
@@ -25,14 +24,14 @@ use Rattle.board.proofs.ShapeFacts.{Stands, Kept, OwnHand, Shaped, set_well_form
 use Rattle.board.proofs.Pointwise.{taken_job, taken_hand}
 
 -- A hand that holds row i.
-pub held_is : (hand : Hand) (i : ℕ) → holds hand i ≡ true → hand ≡ Holds i
-held_is Free i h = true_not_false _ h refl
-held_is (Holds k) i h = ap Holds (eqb-true k i h)
+pub held_is : (hand : Option ℕ) (i : ℕ) → holds hand i ≡ true → hand ≡ Some i
+held_is None i h = true_not_false _ h refl
+held_is (Some k) i h = ap Some (eqb-true k i h)
 
-pub is_held : (hand : Hand) (i : ℕ) → hand ≡ Holds i → holds hand i ≡ true
+pub is_held : (hand : Option ℕ) (i : ℕ) → hand ≡ Some i → holds hand i ≡ true
 is_held hand i e = rw e (eq-eqb i i refl)
 
-pub not_held : (hand : Hand) (i k : ℕ) → hand ≡ Holds k → (k ≡ i → ⊥) → holds hand i ≡ false
+pub not_held : (hand : Option ℕ) (i k : ℕ) → hand ≡ Some k → (k ≡ i → ⊥) → holds hand i ≡ false
 not_held hand i k e d = rw e (ne_eqb k i d)
 
 pub waiting_is : (st : Standing) → is_waiting st ≡ true → st ≡ Waiting
@@ -60,19 +59,19 @@ first_before s p i l w e = go (dec_lt i (first most_rows (waits_on s p)))
     go (no h) = omega arith
 
 -- What a processor has in hand after rule 1: what it had, or the first row waiting.
-pub data HandHow (s : State) (p : ℕ) : Hand → Type 0 where
-  had : (i : ℕ) → hand_at s p ≡ Holds i → HandHow s p (Holds i)
-  took : hand_at s p ≡ Free → first_waiting s p < most_rows → HandHow s p (Holds (first_waiting s p))
-  none : hand_at s p ≡ Free → most_rows ≤ first_waiting s p → HandHow s p Free
+pub data HandHow (s : State) (p : ℕ) : Option ℕ → Type 0 where
+  had : (i : ℕ) → hand_at s p ≡ Some i → HandHow s p (Some i)
+  took : hand_at s p ≡ None → first_waiting s p < most_rows → HandHow s p (Some (first_waiting s p))
+  none : hand_at s p ≡ None → most_rows ≤ first_waiting s p → HandHow s p None
 
 pub hand_how : (s : State) (p : ℕ) → HandHow s p (hand_taken s p)
 unfolding hand_taken
 hand_how s p = go (hand_at s p) refl (dec_lt (first_waiting s p) most_rows)
   where
-    go : (h : Hand) → hand_at s p ≡ h → Dec (first_waiting s p < most_rows) → HandHow s p (takes h (first_waiting s p))
-    go (Holds i) e d = had i e
-    go Free e (yes l) = subst (HandHow s p) (sym (pick_true (ltb (first_waiting s p) most_rows) _ _ (lt-ltb _ _ l))) (took e l)
-    go Free e (no l) = subst (HandHow s p) (sym (pick_false (ltb (first_waiting s p) most_rows) _ _ (le-ltb (first_waiting s p) most_rows (omega arith)))) (none e (omega arith))
+    go : (h : Option ℕ) → hand_at s p ≡ h → Dec (first_waiting s p < most_rows) → HandHow s p (takes h (first_waiting s p))
+    go (Some i) e d = had i e
+    go None e (yes l) = subst (HandHow s p) (sym (pick_true (ltb (first_waiting s p) most_rows) _ _ (lt-ltb _ _ l))) (took e l)
+    go None e (no l) = subst (HandHow s p) (sym (pick_false (ltb (first_waiting s p) most_rows) _ _ (le-ltb (first_waiting s p) most_rows (omega arith)))) (none e (omega arith))
 
 -- What becomes of row i: it is as it was, or it is newly in hand.
 pub record AsWas (s : State) (i : ℕ) : Type 0 where
@@ -81,7 +80,7 @@ pub record AsWas (s : State) (i : ℕ) : Type 0 where
 
 pub record Begins (s : State) (i : ℕ) : Type 0 where
   pub waited : standing_at s i ≡ Waiting
-  pub free : hand_at s (processor_at s i) ≡ Free
+  pub free : hand_at s (processor_at s i) ≡ None
   pub first : first_waiting s (processor_at s i) ≡ i
   pub held : holds (hand_taken s (processor_at s i)) i ≡ true
   pub job : job_taken s i ≡ stand_as (job_at s i) (begins (row_at s i) Waiting)
@@ -121,7 +120,7 @@ module _ (s : State) (f : Shaped s) where
         held = a ∙ sym b;
       }
 
-  newly : (i : ℕ) → hand_at s (processor_at s i) ≡ Free → first_waiting s (processor_at s i) ≡ i → i < most_rows → holds (hand_taken s (processor_at s i)) i ≡ true → Begins s i
+  newly : (i : ℕ) → hand_at s (processor_at s i) ≡ None → first_waiting s (processor_at s i) ≡ i → i < most_rows → holds (hand_taken s (processor_at s i)) i ≡ true → Begins s i
   unfolding job_taken
   newly i e q l a =
       let p = processor_at s i in
@@ -143,18 +142,18 @@ module _ (s : State) (f : Shaped s) where
       most : i < most_rows
       most = omega (arith, w.rows_most)
 
-      go : (h : Hand) → hand_taken s p ≡ h → HandHow s p h → AsWas s i ⊎ Begins s i
+      go : (h : Option ℕ) → hand_taken s p ≡ h → HandHow s p h → AsWas s i ⊎ Begins s i
       go h e (had k q) = at (ℕ_discrete k i)
         where
           at : Dec (k ≡ i) → AsWas s i ⊎ Begins s i
-          at (yes d) = inl (in_hand_lem i l (is_held _ i (e ∙ ap Holds d)) (is_held _ i (q ∙ ap Holds d)))
+          at (yes d) = inl (in_hand_lem i l (is_held _ i (e ∙ ap Some d)) (is_held _ i (q ∙ ap Some d)))
           at (no d) = inl (stays i (not_held _ i k e d) (not_held _ i k q d))
       go h e (took q g) = at (ℕ_discrete (first_waiting s p) i)
         where
           at : Dec (first_waiting s p ≡ i) → AsWas s i ⊎ Begins s i
-          at (yes d) = inr (newly i q d most (is_held _ i (e ∙ ap Holds d)))
-          at (no d) = inl (stays i (not_held _ i _ e d) (ap (λ (x : Hand). holds x i) q))
-      go h e (none q g) = inl (stays i (ap (λ (x : Hand). holds x i) e) (ap (λ (x : Hand). holds x i) q))
+          at (yes d) = inr (newly i q d most (is_held _ i (e ∙ ap Some d)))
+          at (no d) = inl (stays i (not_held _ i _ e d) (ap (λ (x : Option ℕ). holds x i) q))
+      go h e (none q g) = inl (stays i (ap (λ (x : Option ℕ). holds x i) e) (ap (λ (x : Option ℕ). holds x i) q))
 
   -- Rule 1 keeps the shape.
   begun_stands : (row : Row) → 1 ≤ length_of row → Stands row true (begins row Waiting)
@@ -185,7 +184,7 @@ module _ (s : State) (f : Shaped s) where
   hand_own : (p : ℕ) → p < most_processors → OwnHand s.set p (hand_taken s p)
   hand_own p l = go (hand_taken s p) (hand_how s p)
     where
-      go : (h : Hand) → HandHow s p h → OwnHand s.set p h
+      go : (h : Option ℕ) → HandHow s p h → OwnHand s.set p h
       go h (had i q) = subst (OwnHand s.set p) q (f.hand p l)
       go h (took q g) =
           let x = waits s p g in
@@ -213,7 +212,7 @@ module _ (s : State) (f : Shaped s) where
         set = f.set;
         clock = f.clock;
         row = λ i l.
-            subst₂ (λ (h : Hand) (j : Job). Kept s.clock (row_at s i) (holds h i) j)
+            subst₂ (λ (h : Option ℕ) (j : Job). Kept s.clock (row_at s i) (holds h i) j)
             (sym (taken_hand s (processor_at s i) (processor_most i l))) (sym (taken_job s i (omega (arith, l, w.rows_most)))) (kept_taken i l);
         past = λ i l g. ((f.past i l g).0, taken_job s i g ∙ past_taken i l g);
         hand = λ p l. subst (OwnHand s.set p) (sym (taken_hand s p l)) (hand_own p l);

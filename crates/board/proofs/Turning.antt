@@ -12,31 +12,26 @@ use lib.Bits.{bit_or}
 use lib.ListN.{length, get_or, set, length-set}
 use lib.Seq.{get_or-set_same, get_or-set_other}
 use lib.Dec.{ltb, eqb}
+use Rattle.std.specs.Prelude.{Option, Some, None, is_some, Ok}
 use Rattle.laws.specs.Choice.{pick}
 use Rattle.laws.specs.ChoiceLaws.{pick_true, pick_false, true_not_false}
 use Rattle.laws.specs.TabulateLaws.{is_tab}
 use Rattle.laws.specs.Words.{word, word_from}
 use Rattle.laws.specs.BitLaws.{word_same, set_above}
 use Rattle.sheet.specs.Ranges.{most_processors, most_rows}
-use Rattle.sheet.specs.Refusals.{accepted}
 use Rattle.sheet.specs.declared.Row.{Row}
 use Rattle.sheet.specs.declared.Set.{Set}
-use Rattle.sheet.specs.declared.Refusal.{Refusal}
 use Rattle.sheet.proofs.Ranks.{processors_rise}
 use Rattle.board.specs.declared.Job.{Job}
-use Rattle.board.specs.declared.Place.{Place}
 use Rattle.board.specs.declared.State.{State}
 use Rattle.board.specs.declared.Turn.{Turn}
-use Rattle.board.specs.declared.Token.{Token}
 use Rattle.board.specs.declared.Ticked.{Ticked}
-use Rattle.board.specs.declared.Hand.{Hand}
-use Rattle.board.specs.declared.Hand.TheVariants.{Free, Holds}
 use Rattle.board.specs.declared.Standing.{Standing}
-use Rattle.board.specs.States.{most_clock, no_job, free_place, row_at, job_at, hand_at, processor_at, standing_at, is_absent, is_memory, holds, in_hand}
+use Rattle.board.specs.States.{most_clock, no_job, row_at, job_at, hand_at, processor_at, standing_at, is_absent, is_memory, holds, in_hand}
 use Rattle.board.specs.Rules.{stand_as, first_waiting, takes, hand_taken, begins, job_taken, taken, in_memory, token_at, token_named, has_token, steps, finishes, finished, completes_by, job_run_by, frees_by, ran_by, completed_rows_by}
 use Rattle.board.specs.Calls.{ticked}
 use Rattle.board.specs.Parts.{InTurn, token_in, turn_of}
-use Rattle.board.proofs.Granting.{token_before, granted, may_have, token_starts, may_is, nobody_yet, token_next, token_ends}
+use Rattle.board.proofs.Granting.{token_before, granted, may_have, token_most, token_starts, may_is, nobody_yet, token_next, token_ends}
 use Rattle.board.proofs.Standings.{steps_any, no_hold, not_so}
 use Rattle.board.proofs.ShapeFacts.{Stands, OwnHand, Shaped, set_well_formed, below_most, absent_facts}
 use Rattle.board.proofs.Pointwise.{taken_hand, taken_job}
@@ -48,26 +43,41 @@ turn_has : (i : ℕ) (row : Row) (job : Job) (free has : Bool) (t : ℕ) → (is
     → turn_of i row job free t
     ≡ record {
       job = job_after t row has job (begins row job.standing);
-      place = record { hand = pick (finishes row has (begins row job.standing)) Free (Holds i) };
+      hand = pick (finishes row has (begins row job.standing)) None (Some i);
       token = token_in row job free;
-      done = finishes row has (begins row job.standing);
     }
 unfolding turn_of
 turn_has i row job free has t h =
     ap
     (λ (x : Standing). record {
       job = pick (not (is_absent (begins row job.standing)) && is_absent x) (finished t job) (stand_as job x);
-      place = record { hand = pick (not (is_absent (begins row job.standing)) && is_absent x) Free (Holds i) };
+      hand = pick (not (is_absent (begins row job.standing)) && is_absent x) None (Some i);
       token = token_in row job free;
-      done = not (is_absent (begins row job.standing)) && is_absent x;
     })
     (steps_any row (token_in row job free) has (begins row job.standing) (λ e. ap (λ (b : Bool). b && free) e ∙ h e))
 
-same_ticked : (clock : ℕ) {a b : Set} {p q : List Place} {i j : List Job} {r u : Refusal} {t v : Token} {w z : ℕ} → a ≡ b → p ≡ q → i ≡ j → r ≡ u → t ≡ v → w ≡ z
+same_ticked : (clock : ℕ) {a b : Set} {p q : List (Option ℕ)} {i j : List Job} {t v : Option ℕ} {w z : ℕ} → a ≡ b → p ≡ q → i ≡ j → t ≡ v → w ≡ z
     → ◌≡◌ {A = Ticked}
-    (record { state = record { set = a; clock = clock; places = p; jobs = i }; answer = record { refusal = r; token = t; completed = w } })
-    (record { state = record { set = b; clock = clock; places = q; jobs = j }; answer = record { refusal = u; token = v; completed = z } })
-same_ticked clock e₁ e₂ e₃ e₄ e₅ e₆ = rw (e₁, e₂, e₃, e₄, e₅, e₆)
+    (record { state = record { set = a; clock = clock; hands = p; jobs = i }; answer = Ok (record { token = t; completed = w }) })
+    (record { state = record { set = b; clock = clock; hands = q; jobs = j }; answer = Ok (record { token = v; completed = z }) })
+same_ticked clock e₁ e₂ e₃ e₄ e₅ = rw (e₁, e₂, e₃, e₄, e₅)
+
+-- A number that names a processor, or none.
+named_none : (n : ℕ) → n ≤ most_processors → (free : Bool) → is_some (token_named n) ≡ not free → free ≡ eqb n most_processors
+named_none n l free = go (dec_lt n most_processors) free
+  where
+    go : Dec (n < most_processors) → (free : Bool) → is_some (token_named n) ≡ not free → free ≡ eqb n most_processors
+    go (yes h) true e = true_not_false _ (ap is_some (pick_true (ltb n most_processors) (Some n) None (lt-ltb n most_processors h))) e
+    go (yes h) false e = sym (ne_eqb n most_processors (λ z. omega (arith, z, h)))
+    go (no h) true e = sym (eq-eqb n most_processors (omega (arith, l)))
+    go (no h) false e = true_not_false _ e (ap is_some (pick_false (ltb n most_processors) (Some n) None (le-ltb n most_processors (omega arith))))
+
+-- A hand that is none exactly if its row is done.
+done_is : (done : Bool) (i : ℕ) (none : Bool) → is_some (pick done None (Some i)) ≡ not none → none ≡ done
+done_is true i true e = refl
+done_is true i false e = true_not_false true refl (sym e)
+done_is false i true e = true_not_false true refl e
+done_is false i false e = refl
 
 -- A processor's place in the order, one further on.
 next_other : (q p : ℕ) → (q ≡ p → ⊥) → ltb q (p + 1) ≡ ltb q p
@@ -89,7 +99,7 @@ ticked_from from s =
     let has = has_from from (taken s) in
     record {
       state = ran_by has (taken s);
-      answer = record { refusal = accepted; token = token_named (token_from from (taken s)); completed = completed_rows_by has (taken s) };
+      answer = Ok (record { token = token_named (token_from from (taken s)); completed = completed_rows_by has (taken s) });
     }
 
 -- Every tick of this board finds it with nobody.
@@ -122,15 +132,15 @@ module _ (from : ℕ) (s : State) where
   done_below p i = ltb (processor_at s i) p && completes_by has (taken s) i
 
   -- the processors below p have had their turn
-  pub record Turned (now : State) (token completed p : ℕ) : Type 0 where
+  pub record Turned (now : State) (token : Option ℕ) (completed p : ℕ) : Type 0 where
     pub within : p ≤ most_processors
     pub same_set : now.set ≡ s.set
     pub same_clock : now.clock ≡ s.clock
-    pub places_long : length now.places ≡ most_processors
+    pub hands_long : length now.hands ≡ most_processors
     pub jobs_long : length now.jobs ≡ most_rows
     pub hand : (q : ℕ) → q < most_processors → hand_at now q ≡ pick (ltb q p) (frees_by has (taken s) (hand_at (taken s) q)) (hand_at s q)
     pub job : (i : ℕ) → i < most_rows → job_at now i ≡ pick (ltb (processor_at s i) p) (job_run_by has (taken s) i) (job_at s i)
-    pub token_is : token ≡ token_of p
+    pub token_is : token ≡ token_named (token_of p)
     pub completed_is : completed ≡ word most_rows (done_below p)
 
   none_done : (i : ℕ) → done_below 0 i ≡ false
@@ -138,18 +148,18 @@ module _ (from : ℕ) (s : State) where
   none_done i = ap (λ (b : Bool). b && completes_by has (taken s) i) (le-ltb (processor_at s i) 0 (omega arith))
 
   module _ (k : Shaped s) (o : Starts from s) where
-    pub turned_none : length s.places ≡ most_processors → length s.jobs ≡ most_rows → Turned s from 0 0
+    pub turned_none : length s.hands ≡ most_processors → length s.jobs ≡ most_rows → Turned s (token_named from) 0 0
     unfolding memory_at word_from
     turned_none a b =
         record {
           within = omega arith;
           same_set = refl;
           same_clock = refl;
-          places_long = a;
+          hands_long = a;
           jobs_long = b;
           hand = λ q l. sym (pick_false _ _ _ (le-ltb q 0 (omega arith)));
           job = λ i l. sym (pick_false _ _ _ (le-ltb (processor_at s i) 0 (omega arith)));
-          token_is = token_starts most_processors memory_at from o.most o.fits;
+          token_is = ap token_named (token_starts most_processors memory_at from o.most o.fits);
           completed_is = word_same most_rows (λ i. false) (done_below 0) (λ i l. sym (none_done i));
         }
 
@@ -157,7 +167,7 @@ module _ (from : ℕ) (s : State) where
     on_same : (i p : ℕ) → i < most_rows → processor_at s i ≡ p → in_hand (taken s) i ≡ holds (hand_taken s p) i
     unfolding taken
     on_same i p l e =
-        ap (λ (h : Hand). holds h i) (taken_hand s (processor_at s i) (on_board s k i l)) ∙ ap (λ (q : ℕ). holds (hand_taken s q) i) e
+        ap (λ (h : Option ℕ). holds h i) (taken_hand s (processor_at s i) (on_board s k i l)) ∙ ap (λ (q : ℕ). holds (hand_taken s q) i) e
 
     unheld : (i : ℕ) → i < most_rows → in_hand (taken s) i ≡ false → (job_run_by has (taken s) i ≡ job_at s i) × (completes_by has (taken s) i ≡ false)
     unfolding job_taken
@@ -170,36 +180,35 @@ module _ (from : ℕ) (s : State) where
     memory_at_lem p l = ap (in_memory (taken s)) (taken_hand s p l)
 
     -- the token after a processor's turn, by the job in its hand
-    token_on : (p : ℕ) → p < most_processors → (token : ℕ) → token ≡ token_of p → pick (in_memory (taken s) (hand_taken s p) && may_have most_processors token p) p token ≡ token_of (p + 1)
+    token_on : (p : ℕ) → p < most_processors → pick (in_memory (taken s) (hand_taken s p) && may_have most_processors (token_of p) p) p (token_of p) ≡ token_of (p + 1)
     unfolding memory_at
-    token_on p l token e =
-        rw (e, ← memory_at_lem p l) (token_next most_processors memory_at from o.most o.fits p l)
+    token_on p l =
+        rw (← memory_at_lem p l) (token_next most_processors memory_at from o.most o.fits p l)
 
     -- a processor with none in hand after rule 1
-    module _ (now : State) (token completed p : ℕ) (c : Turned now token completed p) (l : p < most_processors) where
-      -- its place is as it was before the loop
+    module _ (now : State) (token : Option ℕ) (completed p : ℕ) (c : Turned now token completed p) (l : p < most_processors) where
+      -- its hand is as it was before the loop
       pub hand_before : hand_at now p ≡ hand_at s p
       hand_before = c.hand p l ∙ pick_false (ltb p p) _ _ (le-ltb p p (omega arith))
 
       -- the code's test where the token starts with nobody
-      pub nobody_has : from ≡ most_processors → eqb token most_processors ≡ may_have most_processors token p
+      pub nobody_has : from ≡ most_processors → (free : Bool) → is_some token ≡ not free → free ≡ may_have most_processors (token_of p) p
       unfolding memory_at
-      nobody_has e =
-          ap (λ (t : ℕ). eqb t most_processors) c.token_is
+      nobody_has e free h =
+          named_none (token_of p) (token_most most_processors memory_at from o.most o.fits p (omega arith)) free (ap is_some (sym c.token_is) ∙ h)
           ∙ sym (nobody_yet most_processors memory_at from o.most o.fits e p l)
-          ∙ ap (λ (t : ℕ). may_have most_processors t p) (sym c.token_is)
 
-      module _ (f : hand_taken s p ≡ Free) where
-        was_free : hand_at s p ≡ Free
+      module _ (f : hand_taken s p ≡ None) where
+        was_free : hand_at s p ≡ None
         unfolding hand_taken
         was_free = go (hand_at s p) refl f
           where
-            go : (h : Hand) → hand_at s p ≡ h → takes h (first_waiting s p) ≡ Free → hand_at s p ≡ Free
-            go Free e t = e
-            go (Holds j) e t = no_hold j (sym t)
+            go : (h : Option ℕ) → hand_at s p ≡ h → takes h (first_waiting s p) ≡ None → hand_at s p ≡ None
+            go None e t = e
+            go (Some j) e t = no_hold j (sym t)
 
         free_row : (i : ℕ) → i < most_rows → processor_at s i ≡ p → in_hand (taken s) i ≡ false
-        free_row i m e = on_same i p m e ∙ ap (λ (h : Hand). holds h i) f
+        free_row i m e = on_same i p m e ∙ ap (λ (h : Option ℕ). holds h i) f
 
         pub turned_free : Turned now token completed (p + 1)
         unfolding frees_by done_below in_memory
@@ -208,11 +217,11 @@ module _ (from : ℕ) (s : State) where
               within = omega arith;
               same_set = c.same_set;
               same_clock = c.same_clock;
-              places_long = c.places_long;
+              hands_long = c.hands_long;
               jobs_long = c.jobs_long;
               hand = λ q m. hand q m (ℕ_discrete q p);
               job = λ i m. job i m (ℕ_discrete (processor_at s i) p);
-              token_is = sym (ap (λ (b : Bool). pick (b && may_have most_processors token p) p token) (ap (in_memory (taken s)) f)) ∙ token_on p l token c.token_is;
+              token_is = c.token_is ∙ ap token_named (sym (ap (λ (b : Bool). pick (b && may_have most_processors (token_of p) p) p (token_of p)) (ap (in_memory (taken s)) f)) ∙ token_on p l);
               completed_is = c.completed_is ∙ word_same most_rows (done_below p) (done_below (p + 1)) (λ i m. done i m (ℕ_discrete (processor_at s i) p));
             }
           where
@@ -240,8 +249,8 @@ module _ (from : ℕ) (s : State) where
             done i m (no n) = ap (λ (b : Bool). b && completes_by has (taken s) i) (sym (next_other (processor_at s i) p n))
 
       -- a processor with row i in hand after rule 1
-      module _ (i : ℕ) (h : hand_taken s p ≡ Holds i) where
-        own : OwnHand s.set p (Holds i)
+      module _ (i : ℕ) (h : hand_taken s p ≡ Some i) where
+        own : OwnHand s.set p (Some i)
         unfolding taken
         own = subst (OwnHand s.set p) (taken_hand s p l ∙ h) ((take_keeps s k).hand p l)
 
@@ -264,41 +273,38 @@ module _ (from : ℕ) (s : State) where
         held_job =
             taken_job s i row_most
             ∙ pick_true (holds (hand_taken s (processor_at s i)) i) _ _
-            (ap (λ (q : ℕ). holds (hand_taken s q) i) own.1 ∙ ap (λ (x : Hand). holds x i) h ∙ eq-eqb i i refl)
+            (ap (λ (q : ℕ). holds (hand_taken s q) i) own.1 ∙ ap (λ (x : Option ℕ). holds x i) h ∙ eq-eqb i i refl)
 
         memory_is : in_memory (taken s) (hand_taken s p) ≡ is_memory standing
         unfolding in_memory
         memory_is = ap (in_memory (taken s)) h ∙ ap (λ (j : Job). is_memory j.standing) held_job
 
-        free_has : is_memory standing ≡ true → may_have most_processors token p ≡ has i
+        free_has : is_memory standing ≡ true → may_have most_processors (token_of p) p ≡ has i
         unfolding has_from token_from token_at memory_at taken
         free_has e =
-            ap (λ (t : ℕ). may_have most_processors t p) c.token_is
-            ∙ may_is most_processors memory_at from o.most o.fits p l (memory_at_lem p l ∙ memory_is ∙ e)
+            may_is most_processors memory_at from o.most o.fits p l (memory_at_lem p l ∙ memory_is ∙ e)
             ∙ ap (λ (q : ℕ). eqb q (granted most_processors memory_at from)) (sym own.1)
 
-        pub turn_is : turn_of i row (job_at s i) (may_have most_processors token p) s.clock
+        pub turn_is : turn_of i row (job_at s i) (may_have most_processors (token_of p) p) s.clock
             ≡ record {
               job = job_run_by has (taken s) i;
-              place = record { hand = frees_by has (taken s) (Holds i) };
-              token = token_in row (job_at s i) (may_have most_processors token p);
-              done = completes_by has (taken s) i;
+              hand = frees_by has (taken s) (Some i);
+              token = token_in row (job_at s i) (may_have most_processors (token_of p) p);
             }
         unfolding job_run_by completes_by frees_by taken
         turn_is =
-            turn_has i row (job_at s i) (may_have most_processors token p) (has i) s.clock free_has
+            turn_has i row (job_at s i) (may_have most_processors (token_of p) p) (has i) s.clock free_has
             ∙ sym
             (ap
             (λ (j : Job). record {
               job = pick (finishes row (has i) j.standing) (finished s.clock j) (stand_as j (steps row (has i) j.standing));
-              place = record { hand = pick (finishes row (has i) j.standing) Free (Holds i) };
-              token = token_in row (job_at s i) (may_have most_processors token p);
-              done = finishes row (has i) j.standing;
+              hand = pick (finishes row (has i) j.standing) None (Some i);
+              token = token_in row (job_at s i) (may_have most_processors (token_of p) p);
             })
             held_job)
 
         held : in_hand (taken s) i ≡ true
-        held = on_same i p row_most own.1 ∙ ap (λ (x : Hand). holds x i) h ∙ eq-eqb i i refl
+        held = on_same i p row_most own.1 ∙ ap (λ (x : Option ℕ). holds x i) h ∙ eq-eqb i i refl
 
         -- what the turn is asked for
         pub in_turn : s.clock < most_clock → InTurn s.clock (job_at s i)
@@ -316,7 +322,7 @@ module _ (from : ℕ) (s : State) where
 
         -- the other rows of p
         other_row : (j : ℕ) → j < most_rows → (j ≡ i → ⊥) → processor_at s j ≡ p → (job_run_by has (taken s) j ≡ job_at s j) × (completes_by has (taken s) j ≡ false)
-        other_row j m n e = unheld j m (on_same j p m e ∙ ap (λ (x : Hand). holds x j) h ∙ ne_eqb i j (λ q. n (sym q)))
+        other_row j m n e = unheld j m (on_same j p m e ∙ ap (λ (x : Option ℕ). holds x j) h ∙ ne_eqb i j (λ q. n (sym q)))
 
         past_row : (j : ℕ) → j < most_rows → s.set.count ≤ j → completes_by has (taken s) j ≡ false
         unfolding taken
@@ -350,8 +356,12 @@ module _ (from : ℕ) (s : State) where
             go (yes b) = done_later p j (omega (arith, processors_rise s.set (set_well_formed s k) i j g b, own.1))
             go (no b) = done_false p j (past_row j m (omega arith))
 
-        token_then : pick (token_in row (job_at s i) (may_have most_processors token p)) p token ≡ token_of (p + 1)
-        token_then = ap (λ (b : Bool). pick (b && may_have most_processors token p) p token) (sym memory_is) ∙ token_on p l token c.token_is
+        token_then : pick (token_in row (job_at s i) (may_have most_processors (token_of p) p)) p (token_of p) ≡ token_of (p + 1)
+        token_then = ap (λ (b : Bool). pick (b && may_have most_processors (token_of p) p) p (token_of p)) (sym memory_is) ∙ token_on p l
+
+        token_set : (t : Bool) → pick t (Some p) token ≡ token_named (pick t p (token_of p))
+        token_set true = sym (pick_true (ltb p most_processors) _ _ (lt-ltb p most_processors l))
+        token_set false = c.token_is
 
         completed_next : (b : Bool) → completes_by has (taken s) i ≡ b → pick b (bit_or completed ((1 * 2 ^ i) % 2 ^ 32)) completed ≡ word most_rows (done_below (p + 1))
         unfolding done_below
@@ -368,38 +378,47 @@ module _ (from : ℕ) (s : State) where
             (rw (e, lt-ltb (processor_at s i) (p + 1) (omega (arith, own.1))))
             (λ j g m. sym (done_other j m (λ q. absurd (omega (arith, q, g)))) ∙ not_before j (omega (arith, g)) m)
 
-        pub turned_hand : (places : List Place) (jobs : List Job) (token₁ completed₁ : ℕ) (turn : Turn)
-            → turn ≡ turn_of i row (job_at s i) (may_have most_processors token p) s.clock
-            → places ≡ set now.places p turn.place
+        -- the hand is free after the turn exactly if the row completes
+        done_freed : {hand : Option ℕ} {none : Bool} → hand ≡ frees_by has (taken s) (Some i) → is_some hand ≡ not none → none ≡ completes_by has (taken s) i
+        unfolding frees_by
+        done_freed e n = done_is (completes_by has (taken s) i) i _ (ap is_some (sym e) ∙ n)
+
+        pub turned_hand : (hands : List (Option ℕ)) (jobs : List Job) (token₁ : Option ℕ) (completed₁ : ℕ) (turn : Turn) (none : Bool)
+            → turn ≡ turn_of i row (job_at s i) (may_have most_processors (token_of p) p) s.clock
+            → is_some turn.hand ≡ not none
+            → hands ≡ set now.hands p turn.hand
             → jobs ≡ set now.jobs i turn.job
-            → token₁ ≡ pick turn.token p token
-            → completed₁ ≡ pick turn.done (bit_or completed ((1 * 2 ^ i) % 2 ^ 32)) completed
-            → Turned (record { set = now.set; clock = now.clock; places = places; jobs = jobs }) token₁ completed₁ (p + 1)
-        turned_hand places jobs token₁ completed₁ turn t d e a b =
+            → token₁ ≡ pick turn.token (Some p) token
+            → completed₁ ≡ pick none (bit_or completed ((1 * 2 ^ i) % 2 ^ 32)) completed
+            → Turned (record { set = now.set; clock = now.clock; hands = hands; jobs = jobs }) token₁ completed₁ (p + 1)
+        turned_hand hands jobs token₁ completed₁ turn none t n d e a b =
             let r = t ∙ turn_is in
             rw (d, e)
             (record {
               within = omega arith;
               same_set = c.same_set;
               same_clock = c.same_clock;
-              places_long = length-set now.places p turn.place ∙ c.places_long;
+              hands_long = length-set now.hands p turn.hand ∙ c.hands_long;
               jobs_long = length-set now.jobs i turn.job ∙ c.jobs_long;
-              hand = λ q m. hand (ap (λ (x : Turn). x.place) r) q m (ℕ_discrete q p);
+              hand = λ q m. hand (ap (λ (x : Turn). x.hand) r) q m (ℕ_discrete q p);
               job = λ j m. job (ap (λ (x : Turn). x.job) r) j m (ℕ_discrete j i) (ℕ_discrete (processor_at s j) p);
-              token_is = a ∙ ap (λ (x : Turn). pick x.token p token) r ∙ token_then;
-              completed_is = b ∙ ap (λ (x : Turn). pick x.done (bit_or completed ((1 * 2 ^ i) % 2 ^ 32)) completed) r ∙ completed_next (completes_by has (taken s) i) refl;
+              token_is = a ∙ ap (λ (x : Turn). pick x.token (Some p) token) r ∙ token_set _ ∙ ap token_named token_then;
+              completed_is =
+                  b
+                  ∙ ap (λ (x : Bool). pick x (bit_or completed ((1 * 2 ^ i) % 2 ^ 32)) completed) (done_freed (ap (λ (x : Turn). x.hand) r) n)
+                  ∙ completed_next (completes_by has (taken s) i) refl;
             })
           where
-            hand : turn.place ≡ record { hand = frees_by has (taken s) (Holds i) } → (q : ℕ) → q < most_processors → Dec (q ≡ p)
-                → (get_or (set now.places p turn.place) q free_place).hand ≡ pick (ltb q (p + 1)) (frees_by has (taken s) (hand_at (taken s) q)) (hand_at s q)
+            hand : turn.hand ≡ frees_by has (taken s) (Some i) → (q : ℕ) → q < most_processors → Dec (q ≡ p)
+                → get_or (set now.hands p turn.hand) q None ≡ pick (ltb q (p + 1)) (frees_by has (taken s) (hand_at (taken s) q)) (hand_at s q)
             hand r q m (yes e) =
-                subst (λ (x : ℕ). (get_or (set now.places p turn.place) x free_place).hand ≡ pick (ltb x (p + 1)) (frees_by has (taken s) (hand_at (taken s) x)) (hand_at s x)) (sym e)
-                (ap (λ (x : Place). x.hand) (get_or-set_same now.places p turn.place free_place (omega (arith, c.places_long)))
-                ∙ ap (λ (x : Place). x.hand) r
+                subst (λ (x : ℕ). get_or (set now.hands p turn.hand) x None ≡ pick (ltb x (p + 1)) (frees_by has (taken s) (hand_at (taken s) x)) (hand_at s x)) (sym e)
+                (get_or-set_same now.hands p turn.hand None (omega (arith, c.hands_long))
+                ∙ r
                 ∙ sym (ap (frees_by has (taken s)) (taken_hand s p l ∙ h))
                 ∙ sym (pick_true (ltb p (p + 1)) _ _ (lt-ltb p (p + 1) (omega arith))))
             hand r q m (no n) =
-                ap (λ (x : Place). x.hand) (get_or-set_other now.places p q turn.place free_place n)
+                get_or-set_other now.hands p q turn.hand None n
                 ∙ c.hand q m
                 ∙ ap (λ (b : Bool). pick b (frees_by has (taken s) (hand_at (taken s) q)) (hand_at s q)) (sym (next_other q p n))
 
@@ -422,19 +441,19 @@ module _ (from : ℕ) (s : State) where
                 ∙ ap (λ (b : Bool). pick b (job_run_by has (taken s) j) (job_at s j)) (sym (next_other (processor_at s j) p d))
 
     -- all processors have had their turn
-    module _ (now : State) (token completed p : ℕ) (c : Turned now token completed p) (end : most_processors ≤ p) where
+    module _ (now : State) (token : Option ℕ) (completed p : ℕ) (c : Turned now token completed p) (end : most_processors ≤ p) where
       at_end : p ≡ most_processors
       at_end = omega (arith, c.within)
 
-      all_hands : (q : ℕ) → q < most_processors → get_or now.places q free_place ≡ record { hand = frees_by has (taken s) (hand_at (taken s) q) }
-      all_hands q m = ap (λ (h : Hand). record { hand = h }) (c.hand q m ∙ pick_true (ltb q p) _ _ (lt-ltb q p (omega arith)))
+      all_hands : (q : ℕ) → q < most_processors → hand_at now q ≡ frees_by has (taken s) (hand_at (taken s) q)
+      all_hands q m = c.hand q m ∙ pick_true (ltb q p) _ _ (lt-ltb q p (omega arith))
 
       all_jobs : (i : ℕ) → i < most_rows → job_at now i ≡ job_run_by has (taken s) i
       all_jobs i m = c.job i m ∙ pick_true (ltb (processor_at s i) p) _ _ (lt-ltb (processor_at s i) p (omega (arith, on_board s k i m)))
 
-      all_token : token ≡ token_from from (taken s)
+      all_token : token ≡ token_named (token_from from (taken s))
       unfolding token_from token_at memory_at
-      all_token = c.token_is ∙ ap token_of at_end ∙ token_ends most_processors memory_at from o.most o.fits
+      all_token = c.token_is ∙ ap token_named (ap token_of at_end ∙ token_ends most_processors memory_at from o.most o.fits)
 
       all_completed : completed ≡ completed_rows_by has (taken s)
       unfolding completed_rows_by done_below
@@ -443,17 +462,15 @@ module _ (from : ℕ) (s : State) where
           ∙ word_same most_rows (done_below p) (completes_by has (taken s))
           (λ i m. ap (λ (b : Bool). b && completes_by has (taken s) i) (lt-ltb (processor_at s i) p (omega (arith, on_board s k i m))))
 
-      pub turned_all : (refusal : Refusal) (named : Token) → refusal ≡ accepted → named ≡ token_named token
-          → record {
-            state = record { set = now.set; clock = s.clock + 1; places = now.places; jobs = now.jobs };
-            answer = record { refusal = refusal; token = named; completed = completed };
-          }
+      pub turned_all : record {
+        state = record { set = now.set; clock = s.clock + 1; hands = now.hands; jobs = now.jobs };
+        answer = Ok (record { token = token; completed = completed });
+      }
           ≡ ticked_from from s
       unfolding ticked_from ran_by taken
-      turned_all refusal named a b =
+      turned_all =
           same_ticked (s.clock + 1) c.same_set
-          (is_tab most_processors _ free_place now.places c.places_long all_hands)
+          (is_tab most_processors _ None now.hands c.hands_long all_hands)
           (is_tab most_rows (job_run_by has (taken s)) no_job now.jobs c.jobs_long all_jobs)
-          a
-          (b ∙ ap token_named all_token)
+          all_token
           all_completed

@@ -8,6 +8,7 @@ use native.Mathlib.Nat.{mul-le-mul_left}
 use native.Mathlib.Omega.{arith}
 use lib.Dec.{eqb}
 use borrow.Author.Tests.{eqb-true}
+use Rattle.std.specs.Prelude.{Some}
 use Rattle.laws.specs.Choice.{pick}
 use Rattle.laws.specs.ChoiceLaws.{true_not_false}
 use Rattle.laws.specs.Words.{bit}
@@ -16,7 +17,6 @@ use Rattle.sheet.specs.declared.Row.{Row}
 use Rattle.sheet.specs.declared.Set.{Set}
 use Rattle.board.specs.declared.Job.{Job}
 use Rattle.board.specs.declared.State.{State}
-use Rattle.board.specs.declared.Hand.TheVariants.{Holds}
 use Rattle.board.specs.declared.Standing.{Standing}
 use Rattle.board.specs.declared.Standing.TheVariants.{Absent, Waiting, Memory, Computation}
 use Rattle.board.specs.States.{row_at, job_at, hand_at, standing_at, is_memory, in_hand}
@@ -136,11 +136,11 @@ tick_works s h i l =
     ∙ ap (λ (x : ℕ). x + bit (works (taken s) i)) (taking_no_work s m.shape i l))
 
 -- A processor with a job in hand works, or a row of a higher-ranked processor does a memory tick.
-pub works_or_stands : (s : State) → (f : Shaped s) → (p i : ℕ) → p < most_processors → hand_at s p ≡ Holds i → (works s i ≡ true) ⊎ running.TokenOver s f i
+pub works_or_stands : (s : State) → (f : Shaped s) → (p i : ℕ) → p < most_processors → hand_at s p ≡ Some i → (works s i ≡ true) ⊎ running.TokenOver s f i
 unfolding works_by
 works_or_stands s f p i l e = go (running.row_steps (has_token s) s f i own.0)
   where
-    own : OwnHand s.set p (Holds i)
+    own : OwnHand s.set p (Some i)
     own = subst (OwnHand s.set p) e (f.hand p l)
 
     held : in_hand s i ≡ true

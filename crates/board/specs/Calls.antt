@@ -1,10 +1,11 @@
 -- The calls: start, release and tick. The first refusal that applies is given; a refusal hands the state back unchanged.
-use Rattle.std.specs.Prelude.{ℕ, ◌+◌, Bool, true, not, ◌&&◌, List, [], ◌∷◌, ltb, leb, eqb}
+use Rattle.std.specs.Prelude.{ℕ, ◌+◌, Bool, true, not, ◌&&◌, List, [], ◌∷◌, ltb, leb, eqb, Option, None, Result, Ok, Err}
 use Rattle.laws.specs.Choice.{pick, Line, ◌gives◌, first_of}
 use Rattle.laws.specs.Tabulate.{tab}
-use Rattle.sheet.specs.Refusals.{STATE, ROW, EARLY, LIVE, CLOCK, refused, accepted, accepts}
+use Rattle.sheet.specs.Refusals.{accepts, carried, STATE, ROW, EARLY, LIVE, CLOCK, refused, accepted, answered}
 use Rattle.sheet.specs.Ranges.{most_rows}
 use Rattle.sheet.specs.Reading.{read_sheet}
+use Rattle.sheet.specs.declared.Refusal.{Refusal}
 use Rattle.sheet.specs.declared.Reading.{Reading}
 use Rattle.board.specs.declared.Job.{Job}
 use Rattle.board.specs.declared.State.{State}
@@ -13,14 +14,13 @@ use Rattle.board.specs.declared.Released.{Released}
 use Rattle.board.specs.declared.Beat.{Beat}
 use Rattle.board.specs.declared.Ticked.{Ticked}
 use Rattle.board.specs.declared.Standing.TheVariants.{Waiting}
-use Rattle.board.specs.declared.Token.TheVariants.{Nobody}
 use Rattle.board.specs.States.{most_clock, row_at, job_at, is_absent, start_set, zero_state}
 use Rattle.board.specs.Shape.{shape_ok}
 use Rattle.board.specs.Rules.{taken, token_at, token_named, ran, completed_rows}
 
 -- Start: reading. A refused start hands back the all-zero state.
 unfoldable pub start_reading : Reading → Started
-start_reading r = record { state = pick (accepts r.refusal) (start_set r.set) zero_state; refusal = r.refusal }
+start_reading r = record { state = pick (accepts (carried r.refusal)) (start_set r.set) zero_state; refusal = r.refusal }
 
 unfoldable pub start_of : List ℕ → Started
 start_of sheet = start_reading (read_sheet sheet)
@@ -50,13 +50,13 @@ released s i =
     record {
       set = s.set;
       clock = s.clock;
-      places = s.places;
+      hands = s.hands;
       jobs = tab most_rows (λ k. pick (eqb k i) (waiting_from s.clock (job_at s i)) (job_at s k));
     }
 
 unfoldable pub release_of : State → ℕ → Released
 release_of s i =
-    record { state = pick (eqb (release_number s i) 0) (released s i) s; answer = refused (release_number s i) 0 }
+    record { state = pick (eqb (release_number s i) 0) (released s i) s; answer = answered (refused (release_number s i) 0) }
 
 -- Tick: 13, 17.
 abbrev pub tick_table : (fits : Bool) (clock : ℕ) → List Line
@@ -66,19 +66,28 @@ unfoldable pub tick_number : State → ℕ
 tick_number s = first_of (tick_table (shape_ok s) s.clock)
 
 -- The answer names the token's processor or none, and the completed rows.
-unfoldable pub ticked : State → Ticked
-ticked s =
-    record {
-      state = ran (taken s);
-      answer = record { refusal = accepted; token = token_named (token_at (taken s)); completed = completed_rows (taken s) };
-    }
+abbrev pub beat_of : State → Beat
+beat_of s = record { token = token_named (token_at (taken s)); completed = completed_rows (taken s) }
 
--- A refused tick names none of either.
-abbrev pub refused_beat : ℕ → Beat
-refused_beat number = record { refusal = refused number 0; token = Nobody; completed = 0 }
+unfoldable pub ticked : State → Ticked
+ticked s = record { state = ran (taken s); answer = Ok (beat_of s) }
 
 abbrev pub unticked : State → ℕ → Ticked
-unticked s number = record { state = s; answer = refused_beat number }
+unticked s number = record { state = s; answer = Err (refused number 0) }
 
 unfoldable pub tick_of : State → Ticked
 tick_of s = pick (eqb (tick_number s) 0) (ticked s) (unticked s (tick_number s))
+
+-- What a tick's answer says: the refusal, the token's processor or none, and the completed rows.
+pub record Said : Type 0 where
+  pub refusal : Refusal
+  pub token : Option ℕ
+  pub completed : ℕ
+
+abbrev pub said : Result Beat Refusal → Said
+said (Ok beat) = record { refusal = accepted; token = beat.token; completed = beat.completed }
+said (Err refusal) = record { refusal = refusal; token = None; completed = 0 }
+
+-- A refused tick names none of either.
+abbrev pub refused_beat : ℕ → Said
+refused_beat number = said (Err (refused number 0))

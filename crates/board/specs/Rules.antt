@@ -1,5 +1,5 @@
 -- A tick by the rules 1 to 5. Rule 1 gives the state in the middle of the tick, and rules 2 to 5 go from there.
-use Rattle.std.specs.Prelude.{ℕ, ◌+◌, ◌-◌, max, Bool, false, not, ◌&&◌, ltb, eqb}
+use Rattle.std.specs.Prelude.{ℕ, ◌+◌, ◌-◌, max, Bool, false, not, ◌&&◌, ltb, eqb, Option, Some, None}
 use Rattle.laws.specs.Choice.{pick}
 use Rattle.laws.specs.Search.{first}
 use Rattle.laws.specs.Tabulate.{tab}
@@ -8,12 +8,8 @@ use Rattle.sheet.specs.Ranges.{most_processors, most_rows, memory_of, computatio
 use Rattle.sheet.specs.declared.Row.{Row}
 use Rattle.board.specs.declared.Job.{Job}
 use Rattle.board.specs.declared.State.{State}
-use Rattle.board.specs.declared.Hand.{Hand}
-use Rattle.board.specs.declared.Hand.TheVariants.{Free, Holds}
 use Rattle.board.specs.declared.Standing.{Standing}
 use Rattle.board.specs.declared.Standing.TheVariants.{Absent, Waiting, Memory, Computation}
-use Rattle.board.specs.declared.Token.{Token}
-use Rattle.board.specs.declared.Token.TheVariants.{Nobody, Processor}
 use Rattle.board.specs.States.{row_at, job_at, hand_at, processor_at, standing_at, is_absent, is_waiting, is_memory, holds}
 
 -- A job at another standing.
@@ -22,9 +18,9 @@ stand_as job standing =
     record { ever = job.ever; last = job.last; standing = standing; worst = job.worst; completed = job.completed }
 
 -- A state with the hands and the jobs given for each processor and each row.
-abbrev pub state_of : State → ℕ → (ℕ → Hand) → (ℕ → Job) → State
+abbrev pub state_of : State → ℕ → (ℕ → Option ℕ) → (ℕ → Job) → State
 state_of s clock hand job =
-    record { set = s.set; clock = clock; places = tab most_processors (λ p. record { hand = hand p }); jobs = tab most_rows job }
+    record { set = s.set; clock = clock; hands = tab most_processors hand; jobs = tab most_rows job }
 
 -- 1. Each processor with none in hand takes its first waiting row,
 unfoldable pub waits_on : State → ℕ → ℕ → Bool
@@ -33,11 +29,11 @@ waits_on s p i = is_waiting (standing_at s i) && eqb (processor_at s i) p
 unfoldable pub first_waiting : State → ℕ → ℕ
 first_waiting s p = first most_rows (waits_on s p)
 
-abbrev pub takes : Hand → ℕ → Hand
-takes Free row = pick (ltb row most_rows) (Holds row) Free
-takes (Holds i) row = Holds i
+abbrev pub takes : Option ℕ → ℕ → Option ℕ
+takes None row = pick (ltb row most_rows) (Some row) None
+takes (Some i) row = Some i
 
-unfoldable pub hand_taken : State → ℕ → Hand
+unfoldable pub hand_taken : State → ℕ → Option ℕ
 hand_taken s p = takes (hand_at s p) (first_waiting s p)
 
 -- into memory (m ticks), or into computation where m = 0.
@@ -55,15 +51,15 @@ unfoldable pub taken : State → State
 taken s = state_of s s.clock (hand_taken s) (job_taken s)
 
 -- 2. The token goes to the highest-ranked processor whose job is in memory, or to none.
-unfoldable pub in_memory : State → Hand → Bool
-in_memory s Free = false
-in_memory s (Holds i) = is_memory (standing_at s i)
+unfoldable pub in_memory : State → Option ℕ → Bool
+in_memory s None = false
+in_memory s (Some i) = is_memory (standing_at s i)
 
 unfoldable pub token_at : State → ℕ
 token_at s = first most_processors (λ p. in_memory s (hand_at s p))
 
-abbrev pub token_named : ℕ → Token
-token_named p = pick (ltb p most_processors) (Processor p) Nobody
+abbrev pub token_named : ℕ → Option ℕ
+token_named p = pick (ltb p most_processors) (Some p) None
 
 unfoldable pub has_token : State → ℕ → Bool
 has_token s i = eqb (processor_at s i) (token_at s)
@@ -107,9 +103,9 @@ job_run_by has s i =
     pick (completes_by has s i) (finished s.clock (job_at s i)) (stand_as (job_at s i) (steps (row_at s i) (has i) (standing_at s i)))
 
 -- and its processor free.
-unfoldable pub frees_by : (ℕ → Bool) → State → Hand → Hand
-frees_by has s Free = Free
-frees_by has s (Holds i) = pick (completes_by has s i) Free (Holds i)
+unfoldable pub frees_by : (ℕ → Bool) → State → Option ℕ → Option ℕ
+frees_by has s None = None
+frees_by has s (Some i) = pick (completes_by has s i) None (Some i)
 
 -- 5. The clock is t + 1.
 unfoldable pub ran_by : (ℕ → Bool) → State → State
@@ -126,7 +122,7 @@ completes s = completes_by (has_token s) s
 abbrev pub job_run : State → ℕ → Job
 job_run s = job_run_by (has_token s) s
 
-abbrev pub frees : State → Hand → Hand
+abbrev pub frees : State → Option ℕ → Option ℕ
 frees s = frees_by (has_token s) s
 
 abbrev pub ran : State → State

@@ -1,5 +1,5 @@
 -- The shape of a state, clause by clause.
-use Rattle.std.specs.Prelude.{ℕ, Bool, true, not, ◌&&◌, ◌||◌, ltb, leb, eqb}
+use Rattle.std.specs.Prelude.{ℕ, Bool, true, not, ◌&&◌, ◌||◌, ltb, leb, eqb, Option, Some, None}
 use Rattle.laws.specs.Choice.{pick}
 use Rattle.laws.specs.Search.{all}
 use Rattle.sheet.specs.Refusals.{accepts}
@@ -8,8 +8,6 @@ use Rattle.sheet.specs.declared.Row.{Row}
 use Rattle.sheet.specs.declared.Set.{Set}
 use Rattle.board.specs.declared.Job.{Job}
 use Rattle.board.specs.declared.State.{State}
-use Rattle.board.specs.declared.Hand.{Hand}
-use Rattle.board.specs.declared.Hand.TheVariants.{Free, Holds}
 use Rattle.board.specs.declared.Standing.{Standing}
 use Rattle.board.specs.declared.Standing.TheVariants.{Absent, Waiting, Memory, Computation}
 use Rattle.board.specs.States.{most_clock, row_at, job_at, hand_at, processor_at, is_absent, in_hand}
@@ -56,9 +54,9 @@ row_fits s i =
 abbrev pub own_row : (i on p n N : ℕ) → Bool
 own_row i on p n N = ltb i n && eqb on p && ltb p N
 
-unfoldable pub hand_fits : State → ℕ → Hand → Bool
-hand_fits s p Free = true
-hand_fits s p (Holds i) = own_row i (processor_at s i) p s.set.count s.set.processors
+unfoldable pub hand_fits : State → ℕ → Option ℕ → Bool
+hand_fits s p None = true
+hand_fits s p (Some i) = own_row i (processor_at s i) p s.set.count s.set.processors
 
 unfoldable pub shape_ok : State → Bool
 shape_ok s =

@@ -1,13 +1,10 @@
 -- What a state holds: the set, the clock, the row in hand on each processor or none, and for each row what is kept for it.
-use Rattle.std.specs.Prelude.{ℕ, Bool, true, false, get_or, replicate, eqb}
+use Rattle.std.specs.Prelude.{ℕ, Bool, true, false, get_or, replicate, eqb, Option, Some, None}
 use Rattle.sheet.specs.Ranges.{most_processors, most_rows, zero_set, row_in}
 use Rattle.sheet.specs.declared.Row.{Row}
 use Rattle.sheet.specs.declared.Set.{Set}
 use Rattle.board.specs.declared.Job.{Job}
-use Rattle.board.specs.declared.Place.{Place}
 use Rattle.board.specs.declared.State.{State}
-use Rattle.board.specs.declared.Hand.{Hand}
-use Rattle.board.specs.declared.Hand.TheVariants.{Free, Holds}
 use Rattle.board.specs.declared.Standing.{Standing}
 use Rattle.board.specs.declared.Standing.TheVariants.{Absent, Waiting, Memory, Computation}
 
@@ -19,9 +16,6 @@ most_clock = 1000000000
 abbrev pub no_job : Job
 no_job = record { ever = false; last = 0; standing = Absent; worst = 0; completed = 0 }
 
-abbrev pub free_place : Place
-free_place = record { hand = Free }
-
 -- The row i of a state, the job kept for it, and the hand of processor p.
 abbrev pub row_at : State → ℕ → Row
 row_at s i = row_in s.set i
@@ -29,8 +23,8 @@ row_at s i = row_in s.set i
 abbrev pub job_at : State → ℕ → Job
 job_at s i = get_or s.jobs i no_job
 
-abbrev pub hand_at : State → ℕ → Hand
-hand_at s p = (get_or s.places p free_place).hand
+abbrev pub hand_at : State → ℕ → Option ℕ
+hand_at s p = get_or s.hands p None
 
 abbrev pub processor_at : State → ℕ → ℕ
 processor_at s i = (row_at s i).processor
@@ -58,9 +52,9 @@ is_memory (Memory left) = true
 is_memory (Computation left) = false
 
 -- A hand holds row i.
-abbrev pub holds : Hand → ℕ → Bool
-holds Free i = false
-holds (Holds k) i = eqb k i
+abbrev pub holds : Option ℕ → ℕ → Bool
+holds None i = false
+holds (Some k) i = eqb k i
 
 -- Row i is in hand on its processor.
 abbrev pub in_hand : State → ℕ → Bool
@@ -68,8 +62,8 @@ in_hand s i = holds (hand_at s (processor_at s i)) i
 
 -- A fresh start over a set: clock 0, nothing released.
 unfoldable pub start_set : Set → State
-start_set set = record { set = set; clock = 0; places = replicate most_processors free_place; jobs = replicate most_rows no_job }
+start_set set = record { set = set; clock = 0; hands = replicate most_processors None; jobs = replicate most_rows no_job }
 
 -- All zero: every number 0, no row in hand, nothing ever released and every job absent.
 unfoldable pub zero_state : State
-zero_state = record { set = zero_set; clock = 0; places = replicate most_processors free_place; jobs = replicate most_rows no_job }
+zero_state = record { set = zero_set; clock = 0; hands = replicate most_processors None; jobs = replicate most_rows no_job }

@@ -1,54 +1,13 @@
 // What the rules of a tick make of one job.
-ghost use Rattle.std.specs.Prelude.{◌≡◌, ◌-◌, ◌≤◌};
+ghost use Rattle.std.specs.Prelude.{◌≡◌, ◌≤◌};
 ghost use Rattle.laws.specs.Choice.{first_of};
-ghost use Rattle.board.specs.States.{is_waiting, is_memory};
-ghost use Rattle.board.specs.Rules.{begins, computes, fetches, steps, finished, stand_as, token_named};
+ghost use Rattle.sheet.specs.Refusals.{fault_number};
+ghost use Rattle.board.specs.Rules.{begins, computes, fetches, steps, finished};
 ghost use Rattle.board.specs.Calls.{tick_table, release_table, waiting_from};
 ghost use Rattle.board.specs.Parts.{Timely, InTurn, turn_of};
 
-use crate::{Hand, Job, Place, Standing, Token, Turn};
-use sheet::Row;
-
-pub(crate) fn is_waiting(standing: Standing) -> bool
-    ensures { result ≡ is_waiting standing }
-{
-    match standing {
-        Standing::Absent => false,
-        Standing::Waiting => true,
-        Standing::Memory(_) => false,
-        Standing::Computation(_) => false,
-    }
-}
-
-fn is_memory(standing: Standing) -> bool
-    ensures { result ≡ is_memory standing }
-{
-    match standing {
-        Standing::Absent => false,
-        Standing::Waiting => false,
-        Standing::Memory(_) => true,
-        Standing::Computation(_) => false,
-    }
-}
-
-fn begun(row: Row, standing: Standing) -> Standing
-    ensures { result ≡ begins row standing }
-{
-    if let Standing::Waiting = standing {
-        if row.memory == 0 {
-            return Standing::Computation(row.computation);
-        }
-        return Standing::Memory(row.memory);
-    }
-    standing
-}
-
-// One tick less; 0 stays 0.
-fn one_less(left: u32) -> u32
-    ensures { result ≡ left - 1 }
-{
-    if left <= 1 { 0 } else { left - 1 }
-}
+use crate::{Job, Standing, Turn};
+use sheet::{Reason, Row};
 
 fn computing(left: u32) -> Standing
     ensures { result ≡ computes left }
@@ -70,126 +29,107 @@ fn fetching(row: Row, left: u32) -> Standing
     }
 }
 
-fn stepped(row: Row, token: bool, standing: Standing) -> Standing
-    ensures { result ≡ steps row «token» standing }
-{
-    if let Standing::Memory(left) = standing {
-        if token {
-            return fetching(row, one_less(left));
+impl Standing {
+    fn begun(self, row: Row) -> Standing
+        ensures { result ≡ begins row self }
+    {
+        if let Standing::Waiting = self {
+            if row.memory == 0 {
+                return Standing::Computation(row.computation);
+            }
+            return Standing::Memory(row.memory);
         }
-        return standing;
+        self
     }
-    if let Standing::Computation(left) = standing {
-        return computing(one_less(left));
-    }
-    standing
-}
 
-fn standing_as(job: Job, standing: Standing) -> Job
-    ensures { result ≡ stand_as job standing }
-{
-    Job {
-        ever: job.ever,
-        last: job.last,
-        standing: standing,
-        worst: job.worst,
-        completed: job.completed,
-    }
-}
-
-fn finished_job(clock: u32, job: Job) -> Job
-    requires { Timely clock job }
-    ensures { result ≡ finished clock job }
-{
-    let response = clock + 1 - job.last;
-    let worst = if job.worst < response {
-        response
-    } else {
-        job.worst
-    };
-    Job {
-        ever: job.ever,
-        last: job.last,
-        standing: Standing::Absent,
-        worst: worst,
-        completed: job.completed + 1,
-    }
-}
-
-// For `tick` alone, of a live job in a state of the shape, which is checked first: there no time of a job lies past the clock.
-pub(crate) fn turned(k: u32, row: Row, job: Job, free: bool, clock: u32) -> Turn
-    requires { InTurn clock job }
-    ensures { result ≡ turn_of k row job «free» clock }
-{
-    let was = job.standing;
-    let standing = begun(row, was);
-    let token = is_memory(standing) & free;
-    let after = stepped(row, token, standing);
-    if crate::shape::is_absent(after) {
-        Turn {
-            job: finished_job(clock, job),
-            place: Place { hand: Hand::Free },
-            token: token,
-            done: true,
+    fn stepped(self, row: Row, token: bool) -> Standing
+        ensures { result ≡ steps row «token» self }
+    {
+        if let Standing::Memory(left) = self {
+            if token {
+                return fetching(row, left.saturating_sub(1));
+            }
+            return self;
         }
-    } else {
-        Turn {
-            job: standing_as(job, after),
-            place: Place {
-                hand: Hand::Holds(k),
-            },
-            token: token,
-            done: false,
+        if let Standing::Computation(left) = self {
+            return computing(left.saturating_sub(1));
+        }
+        self
+    }
+}
+
+impl Job {
+    fn finished(self, clock: u32) -> Job
+        requires { Timely clock self }
+        ensures { result ≡ finished clock self }
+    {
+        let response = clock + 1 - self.last;
+        Job {
+            standing: Standing::Absent,
+            worst: self.worst.max(response),
+            completed: self.completed + 1,
+            ..self
         }
     }
-}
 
-pub(crate) fn named(p: u8) -> Token
-    ensures { result ≡ token_named p }
-{
-    if p < 8 {
-        Token::Processor(p)
-    } else {
-        Token::Nobody
+    // For `tick` alone, of a live job in a state of the shape, which is checked first: there no time of a job lies past the clock.
+    pub(crate) fn turned(self, k: u32, row: Row, free: bool, clock: u32) -> Turn
+        requires { InTurn clock self }
+        ensures { result ≡ turn_of k row self «free» clock }
+    {
+        let begun = self.standing.begun(row);
+        let token = begun.is_memory() & free;
+        let standing = begun.stepped(row, token);
+        if standing.is_absent() {
+            Turn {
+                job: self.finished(clock),
+                hand: None,
+                token,
+            }
+        } else {
+            Turn {
+                job: Job { standing, ..self },
+                hand: Some(k),
+                token,
+            }
+        }
+    }
+
+    // A release makes the job waiting.
+    pub(crate) fn released(self, clock: u32) -> Job
+        ensures { result ≡ waiting_from clock self }
+    {
+        Job {
+            ever: true,
+            last: clock,
+            standing: Standing::Waiting,
+            ..self
+        }
+    }
+
+    // For `release` alone, which has checked the shape first: in a state of the shape no release lies past the clock.
+    pub(crate) fn release_fault(self, clock: u32, period: u32) -> Result<(), Reason>
+        requires { self.last ≤ clock }
+        ensures { fault_number result ≡ first_of (release_table clock period self) }
+    {
+        if self.ever && clock - self.last < period {
+            return Err(Reason::Early);
+        }
+        if !self.standing.is_absent() {
+            return Err(Reason::Live);
+        }
+        Ok(())
     }
 }
 
-pub(crate) fn tick_number(fits: bool, clock: u32) -> u8
-    ensures { result ≡ first_of (tick_table «fits» clock) }
+pub(crate) fn tick_fault(fits: bool, clock: u32) -> Result<(), Reason>
+    ensures { fault_number result ≡ first_of (tick_table «fits» clock) }
 {
     if !fits {
-        return sheet::refusals::STATE;
+        return Err(Reason::State);
     }
     if clock == crate::MOST_CLOCK {
-        return sheet::refusals::CLOCK;
+        return Err(Reason::Clock);
     }
-    sheet::refusals::ACCEPTED
-}
-
-// A release makes the job waiting.
-pub(crate) fn released_job(clock: u32, job: Job) -> Job
-    ensures { result ≡ waiting_from clock job }
-{
-    Job {
-        ever: true,
-        last: clock,
-        standing: Standing::Waiting,
-        worst: job.worst,
-        completed: job.completed,
-    }
-}
-
-// For `release` alone, which has checked the shape first: in a state of the shape no release lies past the clock.
-pub(crate) fn release_number(clock: u32, period: u32, job: Job) -> u8
-    requires { job.last ≤ clock }
-    ensures { result ≡ first_of (release_table clock period job) }
-{
-    if job.ever & (clock - job.last < period) {
-        return sheet::refusals::EARLY;
-    }
-    let standing = job.standing;
-    if !crate::shape::is_absent(standing) {
-        return sheet::refusals::LIVE;
-    }
-    sheet::refusals::ACCEPTED
+    Ok(())
 }

@@ -2,12 +2,13 @@
 // error, and nothing is then on standard output: what stands there is a sheet or nothing.
 #![tactic(auto)]
 
+use sheet_text::{Answer, Refused};
 use std::io::{Print, Result, Stderr};
 
 // Every line fits its buffer: `answer_fits` in the proofs of sheet_text shows it.
-fn print_refusal(errors: Stderr, answer: sheet_text::Answer) -> Result<()> {
+fn print_refusal(errors: Stderr, refused: Refused) -> Result<()> {
     let mut line = io::buffer();
-    let end = sheet_text::put_answer(&mut line, 0, answer);
+    let end = sheet_text::put_answer(&mut line, 0, Answer::from(refused));
     errors.write_all(&line[..end])
 }
 
@@ -17,10 +18,8 @@ fn main(rt: HostRuntime) -> Result<()> {
     let mut text = io::large_buffer();
     let count = input::read_input(&mut rt.stdin(), &mut text);
     let mut sheet = io::buffer();
-    let answer = sheet_text::compose(&text[..count], &mut sheet);
-    if answer.number != sheet::refusals::ACCEPTED {
-        return print_refusal(rt.stderr(), answer);
+    match sheet_text::compose(&text[..count], &mut sheet) {
+        Ok(length) => rt.stdout().write_all(&sheet[..length]),
+        Err(refused) => print_refusal(rt.stderr(), refused),
     }
-    let length = answer.length;
-    rt.stdout().write_all(&sheet[..length])
 }

@@ -6,8 +6,8 @@ use borrow.Author.Tests.{eq-eqb, ne_eqb, le-leb, lt-leb}
 use native.Mathlib.Omega.{arith}
 use Rattle.std.proofs.Math.Decide.{dec_le, ℕ_discrete}
 use Rattle.std.proofs.Math.Arith.{lt_of_le-ne}
-use Rattle.laws.specs.declared.Found.{Found}
-use Rattle.laws.specs.declared.Found.TheVariants.{At, Nothing}
+use Rattle.std.specs.Prelude.{Option}
+use Rattle.std.specs.Prelude.{Some, None}
 use Rattle.laws.specs.Least.{solution_from, least}
 
 abbrev pub Mono : (ℕ → ℕ) → Type 0
@@ -18,19 +18,19 @@ abbrev pub NoneIn : (ℕ → ℕ) → ℕ → ℕ → Type 0
 NoneIn F a b = (y : ℕ) → a ≤ y → y < b → y ≡ F y → ⊥
 
 -- The climb: from x to F x, and one on where that is no rise. For a monotone F it finds the same as `least`, in few steps.
-unfoldable pub climb : (ℕ → ℕ) → ℕ → ℕ → ℕ → Found
-climb F limit zero x = Nothing
-climb F limit (suc k) x = elim (leb x limit) [ false ↦ Nothing | true ↦ elim (eqb x (F x)) [ true ↦ At x | false ↦ climb F limit k (max (F x) (suc x)) ] ]
+unfoldable pub climb : (ℕ → ℕ) → ℕ → ℕ → ℕ → Option ℕ
+climb F limit zero x = None
+climb F limit (suc k) x = elim (leb x limit) [ false ↦ None | true ↦ elim (eqb x (F x)) [ true ↦ Some x | false ↦ climb F limit k (max (F x) (suc x)) ] ]
 
 module _ (F : ℕ → ℕ) (limit : ℕ) where
   -- the three laws that know how `least` is made; all others go by these
-  pub least_here : (a : ℕ) → a ≤ limit → a ≡ F a → least F a limit ≡ At a
+  pub least_here : (a : ℕ) → a ≤ limit → a ≡ F a → least F a limit ≡ Some a
   unfolding least solution_from
   least_here a h e =
       let k : suc limit - a ≡ suc (limit - a) = omega arith in
       rw k (rw (eq-eqb a (F a) e, solution_from))
 
-  pub least_past : (a : ℕ) → limit < a → least F a limit ≡ Nothing
+  pub least_past : (a : ℕ) → limit < a → least F a limit ≡ None
   unfolding least solution_from
   least_past a h =
       let k : suc limit - a ≡ 0 = omega arith in
@@ -60,7 +60,7 @@ module _ (F : ℕ → ℕ) (limit : ℕ) where
       skip (b - a) a (λ y g l. n y g (omega arith)) ∙ ap (λ (z : ℕ). least F z limit) k
 
   -- what solves it, with nothing below that does, is the least
-  pub least_is : (a y : ℕ) → a ≤ y → y ≤ limit → y ≡ F y → NoneIn F a y → least F a limit ≡ At y
+  pub least_is : (a y : ℕ) → a ≤ y → y ≤ limit → y ≡ F y → NoneIn F a y → least F a limit ≡ Some y
   least_is a y h l e n = least_skip a y h n ∙ least_here y l e
 
   none_more : (a b : ℕ) → (a ≡ F a → ⊥) → NoneIn F (suc a) b → NoneIn F a b
@@ -79,13 +79,13 @@ module _ (F : ℕ → ℕ) (limit : ℕ) where
     pub equal : y ≡ F y
     pub first : NoneIn F a y
 
-  abbrev pub Says : ℕ → Found → Type 0
-  Says a (At y) = Solves a y
-  Says a Nothing = NoneIn F a (suc limit)
+  abbrev pub Says : ℕ → Option ℕ → Type 0
+  Says a (Some y) = Solves a y
+  Says a None = NoneIn F a (suc limit)
 
-  says_more : (a : ℕ) → (a ≡ F a → ⊥) → (o : Found) → Says (suc a) o → Says a o
-  says_more a n (At y) s = record { from = omega arith; within = s.within; equal = s.equal; first = none_more a y n s.first }
-  says_more a n Nothing s = none_more a (suc limit) n s
+  says_more : (a : ℕ) → (a ≡ F a → ⊥) → (o : Option ℕ) → Says (suc a) o → Says a o
+  says_more a n (Some y) s = record { from = omega arith; within = s.within; equal = s.equal; first = none_more a y n s.first }
+  says_more a n None s = none_more a (suc limit) n s
 
   says : (k a : ℕ) → suc limit ≤ a + k → Says a (least F a limit)
   says zero a h = rw (least_past a (omega arith)) (λ y g l e. omega arith)
@@ -100,10 +100,10 @@ module _ (F : ℕ → ℕ) (limit : ℕ) where
   pub least_says : (a : ℕ) → Says a (least F a limit)
   least_says a = says (suc limit) a (omega arith)
 
-  pub least_at : (a y : ℕ) → least F a limit ≡ At y → Solves a y
+  pub least_at : (a y : ℕ) → least F a limit ≡ Some y → Solves a y
   least_at a y e = subst (Says a) e (least_says a)
 
-  pub least_none : (a : ℕ) → least F a limit ≡ Nothing → NoneIn F a (suc limit)
+  pub least_none : (a : ℕ) → least F a limit ≡ None → NoneIn F a (suc limit)
   least_none a e = subst (Says a) e (least_says a)
 
   -- a turn of the code's loop: x is not above F x, and the search from a is the search from x
@@ -111,10 +111,10 @@ module _ (F : ℕ → ℕ) (limit : ℕ) where
     pub same : least F a limit ≡ least F x limit
     pub rises : x ≤ F x
 
-  pub climb_found : (a x y : ℕ) → Climbs a x → y ≡ F x → y ≡ x → x ≤ limit → least F a limit ≡ At x
+  pub climb_found : (a x y : ℕ) → Climbs a x → y ≡ F x → y ≡ x → x ≤ limit → least F a limit ≡ Some x
   climb_found a x y c e q h = c.same ∙ least_here x h (sym q ∙ e)
 
-  pub climb_past : (a x : ℕ) → Climbs a x → limit < x → least F a limit ≡ Nothing
+  pub climb_past : (a x : ℕ) → Climbs a x → limit < x → least F a limit ≡ None
   climb_past a x c h = c.same ∙ least_past x h
 
   module _ (mono : Mono F) where
@@ -127,11 +127,11 @@ module _ (F : ℕ → ℕ) (limit : ℕ) where
         least_next a (λ e. omega arith) ∙ least_skip (suc a) (F a) h (none_below a)
 
     -- a number that F doesn't raise bounds the least solution, which then exists
-    exists : (k a x : ℕ) → a ≤ F a → F x ≤ x → a ≤ x → x ≤ limit → x < a + k → (y : ℕ) × (least F a limit ≡ At y) × (y ≤ x)
+    exists : (k a x : ℕ) → a ≤ F a → F x ≤ x → a ≤ x → x ≤ limit → x < a + k → (y : ℕ) × (least F a limit ≡ Some y) × (y ≤ x)
     exists zero a x up pre h l q = absurd (omega arith)
     exists (suc k) a x up pre h l q = go (λ u v. exists k (suc a) x u pre v l (omega arith)) (ℕ_discrete a (F a))
       where
-        go : (suc a ≤ F (suc a) → suc a ≤ x → (y : ℕ) × (least F (suc a) limit ≡ At y) × (y ≤ x)) → Dec (a ≡ F a) → (y : ℕ) × (least F a limit ≡ At y) × (y ≤ x)
+        go : (suc a ≤ F (suc a) → suc a ≤ x → (y : ℕ) × (least F (suc a) limit ≡ Some y) × (y ≤ x)) → Dec (a ≡ F a) → (y : ℕ) × (least F a limit ≡ Some y) × (y ≤ x)
         go r (yes e) = (a, least_here a (omega arith) e, h)
         go r (no n) =
             let m₁ : F a ≤ F (suc a) = mono a (suc a) (omega arith) in
@@ -139,10 +139,10 @@ module _ (F : ℕ → ℕ) (limit : ℕ) where
             let t = r (omega arith) (omega arith) in
             (t.0, least_next a n ∙ t.1, t.2)
 
-    pub least_exists : (a x : ℕ) → a ≤ F a → F x ≤ x → a ≤ x → x ≤ limit → (y : ℕ) × (least F a limit ≡ At y) × (y ≤ x)
+    pub least_exists : (a x : ℕ) → a ≤ F a → F x ≤ x → a ≤ x → x ≤ limit → (y : ℕ) × (least F a limit ≡ Some y) × (y ≤ x)
     least_exists a x up pre h l = exists (suc x) a x up pre h l (omega arith)
 
-    pub least_under : (a y x : ℕ) → least F a limit ≡ At y → a ≤ F a → F x ≤ x → a ≤ x → y ≤ x
+    pub least_under : (a y x : ℕ) → least F a limit ≡ Some y → a ≤ F a → F x ≤ x → a ≤ x → y ≤ x
     least_under a y x e up pre h = go (dec_le x limit)
       where
         go : Dec (x ≤ limit) → y ≤ x
@@ -153,7 +153,7 @@ module _ (F : ℕ → ℕ) (limit : ℕ) where
         go (no f) = omega (arith, (least_at a y e).within)
 
     -- a start that the answer for F gives for F raised by d
-    pub none_raised : (s d : ℕ) (G : ℕ → ℕ) → ((y : ℕ) → G y ≡ F y + d) → least F 0 limit ≡ At s → NoneIn G 0 (s + d)
+    pub none_raised : (s d : ℕ) (G : ℕ → ℕ) → ((y : ℕ) → G y ≡ F y + d) → least F 0 limit ≡ Some s → NoneIn G 0 (s + d)
     none_raised s d G g e y h l q =
         let w : y ≡ F y + d = q ∙ g y in
         let m : F (F y) ≤ F y = mono (F y) y (omega arith) in

@@ -3,16 +3,15 @@ use mathlib.Core.Path.{◌≡◌, sym, ap, subst, ◌∙◌}
 use mathlib.Core.List.{List}
 use Prim.Native.Nat.{ℕ, ◌<◌}
 use native.Mathlib.Omega.{arith}
-use borrow.Author.Tests.{eq-eqb}
+use Rattle.std.specs.Prelude.{Ok}
 use Rattle.laws.specs.ChoiceLaws.{pick_true}
-use Rattle.sheet.specs.Refusals.{accepted, accepts}
+use Rattle.sheet.specs.Refusals.{accepts, carried}
 use Rattle.sheet.specs.Ranges.{WellFormed}
-use Rattle.sheet.specs.Reading.{read_refusal, set_of}
+use Rattle.sheet.specs.Reading.{set_of}
 use Rattle.sheet.specs.declared.Set.{Set}
 use Rattle.sheet.specs.declared.Refusal.{Refusal}
 use Rattle.sheet.specs.declared.Reading.{Reading}
 use Rattle.sheet.proofs.ReadingLaws.{well_formed}
-use Rattle.sheet.proofs.RefusalFields.{read_carries, accepted_carries}
 use Rattle.analysis.specs.Bounds.{bound_in}
 use Rattle.analysis.specs.Analysis.{analysed}
 use Rattle.analysis.proofs.AcceptedSheet.{AcceptedSheet, accepted_sheet, bound_written}
@@ -49,12 +48,12 @@ module _ (sheet buffer : List ℕ) (a : AcceptedSheet sheet buffer) where
   fresh_start : (start_of sheet).state ≡ start_set (set_of sheet)
   unfolding start_of start_reading
   fresh_start =
-      pick_true _ _ _ (eq-eqb _ _ (ap (λ (r : Reading). r.refusal.number) a.reading ∙ a.reads))
+      pick_true _ _ _ (ap (λ (r : Reading). accepts (carried r.refusal)) a.reading)
       ∙ ap (λ (r : Reading). start_set r.set) a.reading
 
-  starts : (start_of sheet).refusal ≡ accepted
+  starts : (start_of sheet).refusal ≡ Ok (tt {0})
   unfolding start_of start_reading
-  starts = ap (λ (r : Reading). r.refusal) a.reading ∙ accepted_carries (read_refusal sheet) (read_carries sheet) a.reads
+  starts = ap (λ (r : Reading). r.refusal) a.reading
 
 pub promised_of_sheets : PromisedOfSheets
 promised_of_sheets sheet buffer h =

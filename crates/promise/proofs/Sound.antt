@@ -11,7 +11,7 @@ use Rattle.board.specs.declared.State.{State}
 use Rattle.board.specs.States.{row_at, job_at, standing_at, is_absent, start_set}
 use Rattle.board.specs.Work.{work_left}
 use Rattle.board.proofs.Pointwise.{start_set_lem}
-use Rattle.board.proofs.Kept.{found_live, release_answer}
+use Rattle.board.proofs.Kept.{found_live, release_carried}
 use Rattle.board.proofs.Jobs.{live_left}
 use Rattle.theory.specs.Accepted.{AcceptedSystem}
 use Rattle.theory.proofs.Soundness as soundness
@@ -45,5 +45,5 @@ module _ (set : Set) (bound : ℕ → ℕ) (w : WellFormed set) (acc : AcceptedS
             complete first_board set bound (Reached set bound) sound (calls (start_set set) before) i after (reached set bound w before) (ap accepts e) (omega (arith, enough));
         never_live = λ cs i e.
             let s = calls (start_set set) cs in
-            not_live first_board set bound (Reached set bound) sound s i (reached set bound w cs) (found_live s i (ap (λ (x : Refusal). x.number) (sym (release_answer s i)) ∙ e));
+            not_live first_board set bound (Reached set bound) sound s i (reached set bound w cs) (found_live s i (ap (λ (x : Refusal). x.number) (sym (release_carried s i)) ∙ e));
       }

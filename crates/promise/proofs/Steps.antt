@@ -4,14 +4,13 @@ use mathlib.Core.Bool.{Bool, true, false}
 use mathlib.Core.Logic.{◌⊎◌, inl, inr}
 use Prim.Native.Nat.{ℕ, ◌+◌, ◌≤◌, ◌<◌}
 use native.Mathlib.Omega.{arith}
+use Rattle.std.specs.Prelude.{Option, Some, None}
 use Rattle.laws.specs.ChoiceLaws.{true_not_false}
 use Rattle.sheet.specs.Ranges.{most_processors, most_rows, row_in, WellFormed}
 use Rattle.sheet.specs.declared.Row.{Row}
 use Rattle.sheet.specs.declared.Set.{Set}
 use Rattle.board.specs.declared.Job.{Job}
 use Rattle.board.specs.declared.State.{State}
-use Rattle.board.specs.declared.Hand.{Hand}
-use Rattle.board.specs.declared.Hand.TheVariants.{Free, Holds}
 use Rattle.board.specs.declared.Standing.{Standing}
 use Rattle.board.specs.declared.Standing.TheVariants.{Absent, Waiting, Memory, Computation}
 use Rattle.board.specs.States.{row_at, job_at, hand_at, processor_at, standing_at, is_memory, holds, in_hand}
@@ -79,11 +78,11 @@ module _ (s : State) (f : Shaped s) (bound : ℕ → ℕ) where
   job_taken_lem j l = taken_job s j (below_most s f j l)
 
   -- Where processor p has none in hand, none of its rows is,
-  free_hand : (p : ℕ) → hand_at s p ≡ Free → (k : ℕ) → processor_at s k ≡ p → in_hand s k ≡ false
-  free_hand p e k q = ap (λ (p : ℕ). holds (hand_at s p) k) q ∙ ap (λ (h : Hand). holds h k) e
+  free_hand : (p : ℕ) → hand_at s p ≡ None → (k : ℕ) → processor_at s k ≡ p → in_hand s k ≡ false
+  free_hand p e k q = ap (λ (p : ℕ). holds (hand_at s p) k) q ∙ ap (λ (h : Option ℕ). holds h k) e
 
   -- and a row before its first waiting one has nothing to do.
-  idle_before : (p : ℕ) → hand_at s p ≡ Free → (k : ℕ) → k < s.set.count → processor_at s k ≡ p → k < first_waiting s p → work_left (row_at s k) (standing_at s k) ≡ 0
+  idle_before : (p : ℕ) → hand_at s p ≡ None → (k : ℕ) → k < s.set.count → processor_at s k ≡ p → k < first_waiting s p → work_left (row_at s k) (standing_at s k) ≡ 0
   idle_before p e k l q h = go (standing_at s k) refl (stands_at s f k l false (free_hand p e k q))
     where
       go : (st : Standing) → standing_at s k ≡ st → Stands (row_at s k) false st → work_left (row_at s k) st ≡ 0
@@ -131,19 +130,19 @@ module _ (s : State) (f : Shaped s) (bound : ℕ → ℕ) where
       Goal : Type 0
       Goal = theory.Holder sys (observed (taken s)) p
 
-      in_hand_lem : (k : ℕ) → hand_at (taken s) p ≡ Holds k → Goal
+      in_hand_lem : (k : ℕ) → hand_at (taken s) p ≡ Some k → Goal
       in_hand_lem k e =
-          let o : OwnHand s.set p (Holds k) = subst (OwnHand s.set p) e (t.hand p p_most) in
+          let o : OwnHand s.set p (Some k) = subst (OwnHand s.set p) e (t.hand p p_most) in
           let held : in_hand (taken s) k ≡ true = is_held _ k (ap (λ (q : ℕ). hand_at (taken s) q) o.1 ∙ e) in
           record { row = k; below = o.0; processor = o.1; held = some_in_hand (row_at s k) (standing_at (taken s) k) (stands_at (taken s) t k o.0 true held) }
 
-      nothing : hand_at s p ≡ Free → most_rows ≤ first_waiting s p → AsWas s j ⊎ Begins s j → ⊥
+      nothing : hand_at s p ≡ None → most_rows ≤ first_waiting s p → AsWas s j ⊎ Begins s j → ⊥
       nothing e h (inl a) =
           let z = idle_before p e j l refl (omega (arith, h, below_most s f j l)) in
           omega (arith, live, z, ap (λ (x : Job). work_left (row_at s j) x.standing) (job_taken_lem j l ∙ a.job))
       nothing e h (inr b) = omega (arith, h, b.first, below_most s f j l)
 
-      go : (h : Hand) → hand_at (taken s) p ≡ h → HandHow s p h → Goal
+      go : (h : Option ℕ) → hand_at (taken s) p ≡ h → HandHow s p h → Goal
       go h e (had k q) = in_hand_lem k e
       go h e (took q g) = in_hand_lem (first_waiting s p) e
       go h e (none q g) = absurd (nothing q g (row_how s f j l))

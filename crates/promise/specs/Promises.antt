@@ -1,6 +1,6 @@
 -- What is promised of a fresh start and the bounds of its rows, under any calls.
-use Rattle.std.specs.Prelude.{ℕ, ◌+◌, ◌≤◌, ◌<◌, ◌≡◌, false, List, length}
-use Rattle.sheet.specs.Refusals.{LIVE, accepted}
+use Rattle.std.specs.Prelude.{ℕ, ◌+◌, ◌≤◌, ◌<◌, ◌≡◌, false, List, length, Ok}
+use Rattle.sheet.specs.Refusals.{LIVE, accepted, carried}
 use Rattle.sheet.specs.Ranges.{WellFormed}
 use Rattle.sheet.specs.declared.Set.{Set}
 use Rattle.analysis.specs.Bounds.{Accepted, bound_in, analyse_set}
@@ -27,13 +27,13 @@ abbrev pub CompleteInTime : State → (ℕ → ℕ) → Type 0
 CompleteInTime fresh bound =
     (before : List Call) (i : ℕ) (after : List Call)
     → let s = calls fresh before in
-    (release_of s i).answer ≡ accepted
+    carried (release_of s i).answer ≡ accepted
     → bound i ≤ ticks_in (release_of s i).state after
     → (job_at s i).completed < (job_at (calls (release_of s i).state after) i).completed
 
 -- No release is ever refused because the earlier job is live.
 abbrev pub NeverLive : State → Type 0
-NeverLive fresh = (cs : List Call) (i : ℕ) → (release_of (calls fresh cs) i).answer.number ≡ LIVE → ⊥
+NeverLive fresh = (cs : List Call) (i : ℕ) → (carried (release_of (calls fresh cs) i).answer).number ≡ LIVE → ⊥
 
 -- All three, from a fresh start.
 pub record Promises (fresh : State) (bound : ℕ → ℕ) : Type 0 where
@@ -47,7 +47,7 @@ PromisedOfSets = (set : Set) (bounds : List ℕ) → WellFormed set → analyse_
 
 -- Demand 3, for sheets: whatever bytes the analysis accepts, with the bounds that it writes and the start that the board makes.
 pub record SheetPromised (sheet buffer : List ℕ) : Type 0 where
-  pub starts : (start_of sheet).refusal ≡ accepted
+  pub starts : (start_of sheet).refusal ≡ Ok (tt {0})
   pub holds : Promises (start_of sheet).state (bound_in (analysed sheet buffer))
 
 abbrev pub PromisedOfSheets : Type 0

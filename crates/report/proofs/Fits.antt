@@ -1,6 +1,6 @@
 -- Every text fits the program's buffer: nothing is left out of what is printed.
 use Prim.Native.Nat.{ℕ, ◌≤◌, ◌<◌}
-use mathlib.Core.Path.{◌≡◌}
+use mathlib.Core.Path.{◌≡◌, sym, subst}
 use mathlib.Core.List.{List, ◌++◌}
 use native.Mathlib.Nat.{mul-le-mul_left}
 use native.Mathlib.Omega.{arith}
@@ -9,7 +9,7 @@ use lib.ListN.{length, get_or, length-append}
 use borrow.Author.Tests.{eq-eqb, ne_eqb}
 use Rattle.laws.specs.Choice.{pick}
 use Rattle.laws.specs.RoundingLaws.{up_below}
-use Rattle.sheet.specs.Refusals.{accepts, or_else}
+use Rattle.sheet.specs.Refusals.{accepts, carried, or_else}
 use Rattle.sheet.specs.Ranges.{most_rows, zero_set, row_in, WellFormed}
 use Rattle.sheet.specs.Reading.{read_refusal, set_of, read_sheet}
 use Rattle.sheet.specs.declared.Row.{Row}
@@ -64,7 +64,8 @@ unfolding analyse_refusal reading_refusal read_sheet
 analyse_small s =
     let n : ℕ = (read_sheet s).set.count in
     let o : Refusal = refusal_of (analyse_set (read_sheet s).set) in
-    either (read_refusal s) (or_else (room_refusal n most_rows) o) (read_small s)
+    let read : Small (carried (read_sheet s).refusal) = subst Small (sym (reading.read_carried s)) (read_small s) in
+    either (carried (read_sheet s).refusal) (or_else (room_refusal n most_rows) o) read
     (either (room_refusal n most_rows) o (room_small n) (go (ℕ_discrete (read_refusal s).number 0)))
   where
     go : Dec ((read_refusal s).number ≡ 0) → Small (refusal_of (analyse_set (pick (accepts (read_refusal s)) (set_of s) zero_set)))

@@ -2,56 +2,52 @@
 #![tactic(auto)]
 
 ghost use Rattle.std.specs.Prelude.{◌≤◌};
-ghost use Rattle.sheet.specs.Ranges.{most_rows, row_in};
-ghost use Rattle.text.specs.Lines.{lines_to};
-ghost use Rattle.text.specs.Putting.{Puts};
-ghost use Rattle.report.specs.Report.{row_line, line_of, accepted_text, report_of};
+ghost use Rattle.sheet.specs.Ranges.{most_rows};
+ghost use Rattle.text.specs.Putting.{Puts, Adds};
+ghost use Rattle.report.specs.Report.{row_line, accepted_text, report_of};
 
-const MOST_ROWS: usize = 32;
+use sheet::{MOST_ROWS, Row, Set};
+use text::Text;
 
-fn put_row(out: &mut [u8], end: usize, i: usize, row: sheet::Row, bound: u32) -> usize
-    ensures { Puts (row_line i row bound) out.old end out.new result }
+fn put_row(text: &mut Text, i: usize, row: Row, bound: u32)
+    ensures { Adds (row_line i row bound) text.old text.new }
 {
-    let end = text::put_field(out, end, i as u64, b' ');
-    let end = text::put_field(out, end, row.processor as u64, b' ');
-    let end = text::put_field(out, end, bound as u64, b' ');
-    text::put_field(out, end, row.deadline as u64, b'\n')
+    // Here and below: there is no `u64::from` of a `usize`.
+    text.put_field(i as u64, b' ');
+    text.put_field(u64::from(row.processor), b' ');
+    text.put_field(u64::from(bound), b' ');
+    text.put_field(u64::from(row.deadline), b'\n');
 }
 
-fn put_rows(out: &mut [u8], end: usize, set: sheet::Set, bounds: &[u32; 32]) -> usize
+// The bounds stand beside the rows, not in them: `analysis::analyse` puts them into a lent buffer of their own.
+fn put_accepted(text: &mut Text, set: Set, bounds: &[u32; MOST_ROWS])
     requires { set.count ≤ most_rows }
-    ensures { Puts (lines_to (line_of (row_in set) bounds.now) set.count) out.old end out.new result }
+    ensures { Adds (accepted_text set bounds.now) text.old text.new }
 {
-    let count = set.count;
-    let rows = set.rows;
-    let mut at = end;
-    let mut i: usize = 0;
-    while i < count {
-        at = put_row(out, at, i, rows[i], bounds[i]);
-        i += 1;
+    text.put(b"accepted ");
+    text.put_field(set.count as u64, b'\n');
+    text.put(b"row processor bound deadline\n");
+    text.put_lines(
+        set.count,
+        |text, i| put_row(text, i, set.rows[i], bounds[i]),
+    );
+}
+
+fn put_report(text: &mut Text, sheet: &[u8])
+    ensures { Adds (report_of sheet.now) text.old text.new }
+{
+    let mut bounds = [0u32; MOST_ROWS];
+    match analysis::analyse(sheet, &mut bounds) {
+        Ok(()) => put_accepted(text, sheet::read(sheet).set, &bounds),
+        Err(refusal) => text.put_refusal(refusal),
     }
-    at
-}
-
-fn put_accepted(out: &mut [u8], end: usize, set: sheet::Set, bounds: &[u32; 32]) -> usize
-    requires { set.count ≤ most_rows }
-    ensures { Puts (accepted_text set bounds.now) out.old end out.new result }
-{
-    let end = text::put(out, end, b"accepted ");
-    let end = text::put_field(out, end, set.count as u64, b'\n');
-    let end = text::put(out, end, b"row processor bound deadline\n");
-    put_rows(out, end, set, bounds)
 }
 
 // The text goes to the front of the lent buffer, and the answer is where it ends.
 pub fn report(sheet: &[u8], out: &mut [u8]) -> usize
     ensures { Puts (report_of sheet.now) out.old 0 out.new result }
 {
-    let mut bounds = [0u32; MOST_ROWS];
-    let refusal = analysis::analyse(sheet, &mut bounds);
-    if refusal.number != sheet::refusals::ACCEPTED {
-        return text::put_refusal(out, 0, refusal);
-    }
-    let reading = sheet::read(sheet);
-    put_accepted(out, 0, reading.set, &bounds)
+    let mut text = Text::new(out);
+    put_report(&mut text, sheet);
+    text.end()
 }

@@ -6,14 +6,17 @@ use Prim.Native.Nat.{ℕ, ◌+◌, ◌<◌}
 use lib.Dec.{eqb}
 use borrow.Author.Tests.{eqb-true}
 use Rattle.laws.specs.Choice.{pick}
-use Rattle.sheet.specs.Refusals.{accepts}
+use Rattle.std.specs.Prelude.{Ok, Err}
+use Rattle.sheet.specs.Refusals.{accepts, carried}
+use Rattle.sheet.specs.Refusals as sheet
+use Rattle.sheet.specs.declared.Refusal.{Refusal}
 use Rattle.sheet.specs.Ranges.{WellFormed}
 use Rattle.sheet.specs.declared.Set.{Set}
 use Rattle.board.specs.declared.State.{State}
 use Rattle.board.specs.declared.Ticked.{Ticked}
 use Rattle.board.specs.States.{start_set}
 use Rattle.board.specs.Rules.{taken, has_token}
-use Rattle.board.specs.Calls.{release_number, released, release_of, tick_number, ticked, unticked, tick_of}
+use Rattle.board.specs.Calls.{release_number, released, release_of, tick_number, ticked, unticked, tick_of, said}
 use Rattle.board.proofs.ShapeFacts.{Shaped}
 use Rattle.board.proofs.Pointwise.{start_set_lem}
 use Rattle.board.proofs.Kept.{may_release, may_tick, start_keeps}
@@ -28,22 +31,25 @@ module _ (s : State) where
   abbrev How : Call → Bool → State → Type 0
   How = CallHow (has_token (taken s)) s
 
-  release_how : (i : ℕ) → How (release i) (accepts (release_of s i).answer) (release_of s i).state
+  release_how : (i : ℕ) → How (release i) (accepts (carried (release_of s i).answer)) (release_of s i).state
   unfolding release_of
   release_how i = go (eqb (release_number s i) 0) refl
     where
-      go : (a : Bool) → eqb (release_number s i) 0 ≡ a → How (release i) a (pick a (released s i) s)
-      go true e = releases (may_release s i (eqb-true _ _ e))
-      go false e = refused
+      answer : Bool → Refusal
+      answer a = carried (pick a (Ok (tt {0})) (Err (sheet.refused (release_number s i) 0)))
 
-  tick_how : How tick (accepts (tick_of s).answer.refusal) (tick_of s).state
+      go : (a : Bool) → eqb (release_number s i) 0 ≡ a → How (release i) (accepts (answer a)) (pick a (released s i) s)
+      go true e = releases (may_release s i (eqb-true _ _ e))
+      go false e = subst (λ (x : Bool). How (release i) x s) (sym e) refused
+
+  tick_how : How tick (accepts (said (tick_of s).answer).refusal) (tick_of s).state
   unfolding tick_of ticked
   tick_how = go (eqb (tick_number s) 0) refl
     where
       beat : Bool → Ticked
       beat a = pick a (ticked s) (unticked s (tick_number s))
 
-      go : (a : Bool) → eqb (tick_number s) 0 ≡ a → How tick (accepts (beat a).answer.refusal) (beat a).state
+      go : (a : Bool) → eqb (tick_number s) 0 ≡ a → How tick (accepts (said (beat a).answer).refusal) (beat a).state
       go true e = ticks (may_tick s (eqb-true _ _ e))
       go false e = subst (λ (x : Bool). How tick x s) (sym e) refused
 

@@ -1,10 +1,10 @@
 -- Lists of calls on a board, in any order, accepted or refused.
 use Rattle.std.specs.Prelude.{ℕ, ◌+◌, Bool, true, ◌&&◌, List, [], ◌∷◌}
 use Rattle.laws.specs.Words.{bit}
-use Rattle.sheet.specs.Refusals.{accepts}
+use Rattle.sheet.specs.Refusals.{accepts, carried}
 use Rattle.sheet.specs.declared.Refusal.{Refusal}
 use Rattle.board.specs.declared.State.{State}
-use Rattle.board.specs.Calls.{release_of, tick_of}
+use Rattle.board.specs.Calls.{release_of, tick_of, said}
 
 pub data Call : Type 0 where
   release : ℕ → Call
@@ -45,8 +45,8 @@ called s (release i) = (release_of s i).state
 called s tick = (tick_of s).state
 
 abbrev pub answered : State → Call → Refusal
-answered s (release i) = (release_of s i).answer
-answered s tick = (tick_of s).answer.refusal
+answered s (release i) = carried (release_of s i).answer
+answered s tick = (said (tick_of s).answer).refusal
 
 abbrev pub first_board : Board
 first_board = record { Whole = State; state = λ (s : State). s; called = called; answered = answered }

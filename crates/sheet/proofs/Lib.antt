@@ -1,10 +1,11 @@
 pub mod Faults
+pub mod RefusalFields
+pub mod AnswerLaws
 pub mod ReadingLaws
 pub mod Ranks
 pub mod ShowingLaws
 pub mod WritingLaws
 pub mod RoundTrip
-pub mod RefusalFields
 pub mod SmallRefusals
 pub mod Determined
 pub mod ExamplesHold

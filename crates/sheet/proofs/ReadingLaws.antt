@@ -1,4 +1,5 @@
 -- Laws of reading: what each answer says, and what a sheet that reads guarantees.
+use Rattle.std.specs.Prelude.{true, false, ⊤, Result, Ok, Err, is_ok}
 use mathlib.Core.Path.{◌≡◌, refl, sym, ap, ◌∙◌}
 use mathlib.Core.List.{List}
 use Prim.Native.Nat.{ℕ, zero, suc, ◌+◌, ◌-◌, ◌<◌, ◌≤◌}
@@ -10,7 +11,7 @@ use Rattle.laws.specs.Choice.{first_of}
 use Rattle.laws.specs.ChoiceLaws.{past}
 use Rattle.laws.specs.Tabulate.{padded}
 use Rattle.laws.specs.TabulateLaws.{padded_none, padded_more, padded_at, padded_rest}
-use Rattle.sheet.specs.Refusals.{refused, accepted}
+use Rattle.sheet.specs.Refusals.{refused, accepted, carried, answered}
 use Rattle.sheet.specs.Layout.{version_of, stated_length, processors_of, count_of, length_for, length_byte, record_start, row_start, row_at}
 use Rattle.sheet.specs.Ranges.{most_rows, row_fault, before, first_fault, zero_row, zero_set, row_in, InRange, WellFormed}
 use Rattle.sheet.specs.Reading.{header_fault, record_fault, read_refusal, set_of, read_sheet, row_of_part}
@@ -19,6 +20,8 @@ use Rattle.sheet.specs.declared.Set.{Set}
 use Rattle.sheet.specs.declared.Refusal.{Refusal}
 use Rattle.sheet.specs.declared.Reading.{Reading}
 use Rattle.sheet.proofs.Faults as faults
+use Rattle.sheet.proofs.RefusalFields.{read_carries}
+use Rattle.sheet.proofs.AnswerLaws as answers
 
 -- What a header without a fault says.
 pub record Header (s : List ℕ) : Type 0 where
@@ -91,13 +94,18 @@ reads s h =
     }
 
 -- Reading, by what was found.
-pub read_refused : (s : List ℕ) (r : Refusal) → r ≡ read_refusal s → (r.number ≡ 0 → ⊥) → record { refusal = r; set = zero_set } ≡ read_sheet s
+pub read_refused : (s : List ℕ) (r : Refusal) → r ≡ read_refusal s → (r.number ≡ 0 → ⊥) → record { refusal = Err r; set = zero_set } ≡ read_sheet s
 unfolding read_sheet
 read_refused s r e h = rw (← e, ne_eqb r.number 0 h)
 
-pub read_accepted : (s : List ℕ) (r : Refusal) → r ≡ read_refusal s → r.number ≡ 0 → record { refusal = r; set = set_of s } ≡ read_sheet s
+pub read_accepted : (s : List ℕ) → (read_refusal s).number ≡ 0 → record { refusal = Ok tt; set = set_of s } ≡ read_sheet s
 unfolding read_sheet
-read_accepted s r e h = rw (← e, eq-eqb r.number 0 h)
+read_accepted s h = rw (eq-eqb (read_refusal s).number 0 h)
+
+-- What a reading carries.
+pub read_carried : (s : List ℕ) → carried (read_sheet s).refusal ≡ read_refusal s
+unfolding read_sheet
+read_carried s = answers.carried_answer (read_refusal s) (read_carries s)
 
 -- A set of n rows of which the first i are stored.
 abbrev pub stored_to : List ℕ → ℕ → ℕ → ℕ → Set
@@ -116,27 +124,33 @@ pub record Begun (s : List ℕ) (N n : ℕ) : Type 0 where
   pub long : (i : ℕ) → i < n → row_start i + 17 ≤ length s
   pub leads : stored_to s N n n ≡ (read_sheet s).set
 
-pub begun_refused : (s : List ℕ) (r : Refusal) → r ≡ read_refusal s → (r.number ≡ 0 → ⊥) → Begun s 0 0
-begun_refused s r e h =
+pub begun_refused : (s : List ℕ) (a : Result ⊤ Refusal) → a ≡ answered (read_refusal s) → is_ok a ≡ false → Begun s 0 0
+begun_refused s a e h =
+    let n = answers.refused_answer (read_refusal s) (rw (← e) h) in
     record {
       few = omega arith;
       long = λ i l. absurd (omega (arith, l));
-      leads = sym (stored_none s 0 0) ∙ ap (λ (x : Reading). x.set) (read_refused s r e h);
+      leads = sym (stored_none s 0 0) ∙ ap (λ (x : Reading). x.set) (read_refused s (read_refusal s) refl n);
     }
 
-pub begun_accepted : (s : List ℕ) (r : Refusal) → r ≡ read_refusal s → r.number ≡ 0 → Begun s (processors_of s) (count_of s)
+-- A sheet that was accepted.
+pub accepted_reads : (s : List ℕ) (a : Result ⊤ Refusal) → a ≡ answered (read_refusal s) → is_ok a ≡ true → Reads s
+accepted_reads s a e h = reads s (answers.accepted_answer (read_refusal s) (rw (← e) h))
+
+pub begun_accepted : (s : List ℕ) (a : Result ⊤ Refusal) → a ≡ answered (read_refusal s) → is_ok a ≡ true → Begun s (processors_of s) (count_of s)
 unfolding set_of
-begun_accepted s r e h =
-    let k = reads s (ap (λ (x : Refusal). x.number) (sym e) ∙ h) in
+begun_accepted s a e h =
+    let n = answers.accepted_answer (read_refusal s) (rw (← e) h) in
+    let k = reads s n in
     record {
       few = k.head.rows;
       long = λ i l. omega (arith, l, k.head.whole);
-      leads = ap (λ (x : Reading). x.set) (read_accepted s r e h);
+      leads = ap (λ (x : Reading). x.set) (read_accepted s n);
     }
 
-pub read_as : (s : List ℕ) (r : Refusal) (x : Set) → r ≡ read_refusal s → x ≡ (read_sheet s).set → record { refusal = r; set = x } ≡ read_sheet s
+pub read_as : (s : List ℕ) (a : Result ⊤ Refusal) (x : Set) → a ≡ answered (read_refusal s) → x ≡ (read_sheet s).set → record { refusal = a; set = x } ≡ read_sheet s
 unfolding read_sheet
-read_as s r x e f = rw (e, f)
+read_as s a x e f = rw (e, f)
 
 -- The rows of the set that a sheet says.
 pub row_in_lem : (s : List ℕ) (i : ℕ) → count_of s ≤ 32 → i < count_of s → row_in (set_of s) i ≡ row_at s i
@@ -185,5 +199,5 @@ unfolding set_of
 rows_most s = go (ℕ_discrete (read_refusal s).number 0)
   where
     go : Dec ((read_refusal s).number ≡ 0) → (read_sheet s).set.count ≤ most_rows
-    go (yes e) = omega (arith, ap (λ (r : Reading). r.set.count) (read_accepted s (read_refusal s) refl e), (reads s e).head.rows)
+    go (yes e) = omega (arith, ap (λ (r : Reading). r.set.count) (read_accepted s e), (reads s e).head.rows)
     go (no n) = omega (arith, ap (λ (r : Reading). r.set.count) (read_refused s (read_refusal s) refl n))

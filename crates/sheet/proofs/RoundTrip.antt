@@ -1,4 +1,5 @@
 -- Writing and reading back, and reading and writing back.
+use Rattle.std.specs.Prelude.{Ok}
 use mathlib.Core.Path.{◌≡◌, refl, sym, ap, ap₂, ◌∙◌}
 use mathlib.Core.List.{List, [], ◌∷◌, ◌++◌}
 use Prim.Native.Nat.{ℕ, zero, suc, ◌+◌, ◌*◌, ◌/◌, ◌%◌, ◌<◌, ◌≤◌}
@@ -134,12 +135,12 @@ module _ (set : Set) (h : (set_refusal set).number ≡ 0) where
       (padded_same (row_at s) (row_in set) zero_row 32 set.count row_here)
 
   -- Writing a set that the writer takes and reading those bytes back gives the set with rows past n zeroed.
-  pub write_read : read_sheet (sheet_of set) ≡ record { refusal = accepted; set = trimmed set }
+  pub write_read : read_sheet (sheet_of set) ≡ record { refusal = Ok tt; set = trimmed set }
   unfolding s
   write_read =
       let clear = faults.clear_to (record_fault s) (count_of s) (λ i l. record_clear i (omega (arith, l, head_count))) (count_of s) (omega arith) in
-      sym (reading.read_accepted s accepted (reading.none_refused s (count_of s) clear_header clear (omega arith)) refl)
-      ∙ ap (λ (x : Set). record { refusal = accepted; set = x }) set_back
+      sym (reading.read_accepted s (ap (λ (r : Refusal). r.number) (sym (reading.none_refused s (count_of s) clear_header clear (omega arith)))))
+      ∙ ap (λ (x : Set). record { refusal = Ok tt; set = x }) set_back
 
 -- The first k elements, one by one.
 take_tab : (k : ℕ) (l : List ℕ) → k ≤ length l → take k l ≡ tab k (λ i. get_or l i 0)
@@ -236,7 +237,7 @@ module _ (s : List ℕ) (bytes : (i : ℕ) → get_or s i 0 < 256) (h : (read_re
 
 -- What the writer leaves in a buffer, read back.
 pub written_read : (set : Set) (buffer : List ℕ) → (write_refusal set (length buffer)).number ≡ 0
-    → read_sheet (take (length_for set.count) (written set buffer)) ≡ record { refusal = accepted; set = trimmed set }
+    → read_sheet (take (length_for set.count) (written set buffer)) ≡ record { refusal = Ok tt; set = trimmed set }
 unfolding write_refusal
 written_read set buffer h =
     let p = faults.both_accept (set_refusal set) _ h in

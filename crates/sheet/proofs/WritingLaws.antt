@@ -22,6 +22,12 @@ pub sets_whole : {A : Type 0} (vs l : List A) → length l ≡ length vs → set
 sets_whole vs l h =
     sets-eq vs l 0 (omega arith) ∙ ap (λ (r : List _). vs ++ r) (drop_of_length-le l {i = 0 + length vs} (omega arith)) ∙ append-nil vs
 
+-- Stores into the middle of a list: what stands before, what was stored, and what stands after.
+pub sets_mid : {A : Type 0} (vs l : List A) (i : ℕ) → i + length vs ≤ length l → take i l ++ (vs ++ drop (i + length vs - i) (drop i l)) ≡ sets l i vs
+sets_mid vs l i h =
+    let e : i + length vs - i ≡ length vs = omega arith in
+    rw (e, drop-drop (length vs) i l) (sym (sets-eq vs l i h ∙ append_assoc (take i l) vs (drop (i + length vs) l)))
+
 pub length_records : (f : ℕ → Row) (n : ℕ) → length (records_of f n) ≡ 18 * n
 length_records f zero = refl
 length_records f (suc n) = length-append (records_of f n) (record_bytes (f n)) ∙ omega (arith, length_records f n)
@@ -36,6 +42,10 @@ unfolding set_refusal
 set_rows set h =
     faults.none_faulty (set_row_fault set) set.count
     (faults.both_accept (refused (count_fault set.processors set.count) 0) (first_fault (set_row_fault set) set.count) h).1
+
+-- The buffer with the header written.
+abbrev pub begun : Set → List ℕ → List ℕ
+begun set out = sets out 0 (header_bytes set.processors set.count)
 
 -- The buffer with the records below i written.
 abbrev pub partly : (ℕ → Row) → List ℕ → ℕ → List ℕ
@@ -61,7 +71,7 @@ partly_more f o i h =
     rw (x, e, take_at p (drop a o) a l, drop_at p (drop a o) a l, drop-drop 18 a o, b, add-one i) (simp append_assoc)
 
 pub partly_all : (set : Set) (out : List ℕ) → length_for set.count ≤ length out
-    → partly (row_in set) (sets out 0 (header_bytes set.processors set.count)) set.count ≡ sheet_of set ++ drop (length_for set.count) out
+    → partly (row_in set) (begun set out) set.count ≡ sheet_of set ++ drop (length_for set.count) out
 unfolding sheet_of
 partly_all set out h =
     let hb : List ℕ = header_bytes set.processors set.count in
@@ -74,11 +84,10 @@ pub record Writes (set : Set) (before : List ℕ) (r : Refusal) (after : List �
   pub answer : r ≡ write_refusal set (length before)
   pub buffer : after ≡ written set before
 
-pub write_refused : (set : Set) (out : List ℕ) (r : Refusal) → r ≡ set_refusal set → (r.number ≡ 0 → ⊥) → Writes set out r out
+pub write_refused : (set : Set) (out : List ℕ) → ((set_refusal set).number ≡ 0 → ⊥) → Writes set out (set_refusal set) out
 unfolding written write_refusal
-write_refused set out r e h =
-    let n : (set_refusal set).number ≡ 0 → ⊥ = λ z. h (ap (λ (x : Refusal). x.number) e ∙ z) in
-    record { answer = e ∙ sym (faults.or_first _ _ n); buffer = simp (ne_eqb (set_refusal set).number 0 n, ne_eqb (set_refusal set).number 0 n) }
+write_refused set out n =
+    record { answer = sym (faults.or_first _ _ n); buffer = simp (ne_eqb (set_refusal set).number 0 n, ne_eqb (set_refusal set).number 0 n) }
 
 pub write_short : (set : Set) (out : List ℕ) → (set_refusal set).number ≡ 0 → length out < length_for set.count → Writes set out (refused ROOM 0) out
 unfolding written write_refusal first_of

@@ -2,7 +2,7 @@
 use Rattle.std.specs.Prelude.{ℕ, not, List, ◌∷◌, length, ltb, eqb}
 use Rattle.laws.specs.Choice.{pick, ◌gives◌, first_of}
 use Rattle.laws.specs.Tabulate.{padded}
-use Rattle.sheet.specs.Refusals.{CUT, VERSION, LENGTH, RECORD, refused, accepts, or_else}
+use Rattle.sheet.specs.Refusals.{CUT, VERSION, LENGTH, RECORD, refused, accepts, answered, or_else}
 use Rattle.sheet.specs.Layout.{version_of, stated_length, processors_of, count_of, length_for, length_byte, row_of, row_at}
 use Rattle.sheet.specs.Ranges.{most_rows, count_table, row_table, before, first_fault, zero_row, zero_set}
 use Rattle.sheet.specs.declared.Row.{Row}
@@ -34,7 +34,7 @@ set_of s =
 
 -- A refused read hands back the all-zero set.
 unfoldable pub read_sheet : List ℕ → Reading
-read_sheet s = record { refusal = read_refusal s; set = pick (accepts (read_refusal s)) (set_of s) zero_set }
+read_sheet s = record { refusal = answered (read_refusal s); set = pick (accepts (read_refusal s)) (set_of s) zero_set }
 
 -- The row that a part of a sheet says; the zero row where the part is not 17 bytes long.
 unfoldable pub row_of_part : List ℕ → Row

@@ -20,11 +20,10 @@ use Rattle.text.proofs.DecimalLaws.{decimal_short}
 use Rattle.text.proofs.Lengths.{lines_short}
 use Rattle.sheet_text.specs.Faults.{no_fault}
 use Rattle.sheet_text.specs.Words.{bytes_before, lines_of, has_word, same_bytes}
-use Rattle.sheet_text.specs.Meaning.{TextLine, line_at, no_line, worded, most_bytes, first_line_said, row_numbers, row_said, rows_fault, row_of_line, rows_meant, page_meant, meant, meaning_of}
+use Rattle.sheet_text.specs.Meaning.{TextLine, RowSaid, line_at, no_line, worded, most_bytes, first_line_said, row_numbers, row_said, rows_fault, row_of_line, rows_meant, page_meant, meant, meaning_of}
 use Rattle.sheet_text.specs.Listing.{first_text, heading, row_text, row_text_of, listing}
 use Rattle.sheet_text.specs.declared.Mark.{Mark}
 use Rattle.sheet_text.specs.declared.Mark.TheVariants.{Newline, Hash}
-use Rattle.sheet_text.specs.declared.RowSaid.{RowSaid}
 use Rattle.sheet_text.proofs.WordsOfLines.{Each, each_append, No, IsWord, before_all, lines_next, word_next, word_there, after_next}
 use Rattle.sheet_text.proofs.DecimalWords.{decimal_each, decimal_word, digit_no_newline, digit_no_hash}
 use Rattle.sheet_text.proofs.PlainLines.{spaced, spaced_each, spaced_ends, line_of_lem, Within, numbers_after, numbers_said_lem}

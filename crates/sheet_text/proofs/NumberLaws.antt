@@ -2,28 +2,28 @@
 use Prim.Native.Nat.{ℕ, suc, ◌+◌, ◌-◌, ◌≤◌, ◌<◌}
 use mathlib.Core.Path.{◌≡◌, refl, sym, ap, ap₂, ◌∙◌}
 use mathlib.Core.Bool.{Bool, true, false}
-use mathlib.Core.List.{List, [], ◌∷◌}
+use mathlib.Core.List.{List}
 use native.Mathlib.Omega.{arith}
 use native.Mathlib.Numerals.{add-one}
-use native.Mathlib.Nat.{add_assoc}
 use native.Mathlib.Decide.{ℕ_discrete}
-use lib.ListN.{length, get_or, take, drop, set, length-drop}
+use lib.ListN.{length, get_or, drop, set, length-drop, replicate}
+use Rattle.std.proofs.lemmas.List.{length-replicate}
 use lib.Seq.{drop-drop}
 use lib.Dec.{eqb}
 use borrow.Author.Tests.{eq-eqb, ne_eqb, lt-ltb, le-ltb, ltb-false}
 use Rattle.laws.specs.Choice.{pick}
 use Rattle.laws.specs.ChoiceLaws.{pick_true, pick_false, past, both_zero}
-use Rattle.laws.specs.Tabulate.{padded}
-use Rattle.laws.specs.TabulateLaws.{padded_at, padded_none, padded_more}
-use Rattle.sheet_text.specs.Faults.{MANY, fault_at, no_fault, or_else}
-use Rattle.sheet_text.specs.Words.{blanks_of, has_word, word_of, word_end, after_word, value_of, number_fault, number_said, field_said, number_limit}
-use Rattle.sheet_text.specs.Meaning.{numbers_fault, left_after, value_at, most_numbers, faulty_numbers, numbers_said}
-use Rattle.sheet_text.specs.declared.Mark.TheVariants.{Visible}
-use Rattle.sheet_text.specs.declared.Fault.{Fault}
-use Rattle.sheet_text.specs.declared.Field.{Field}
-use Rattle.sheet_text.specs.declared.Numbers.{Numbers}
-use Rattle.sheet_text.proofs.FaultLaws.{unless_faulty, unless_clear}
-use Rattle.sheet_text.proofs.WordLaws.{to_end, before_short, word_end_lem}
+use Rattle.laws.specs.Tabulate.{tab_from, padded}
+use Rattle.laws.specs.TabulateLaws.{padded_at, padded_same, Stored, stored_none, stored_more}
+use Rattle.sheet_text.specs.Faults.{MANY, Fault, numbered, fault_at, no_fault, or_else}
+use Rattle.sheet_text.specs.Words.{Field, blanks_of, has_word, word_of, word_end, after_word, value_of, number_fault, number_said, field_said, number_limit}
+use Rattle.sheet_text.specs.Parts.{number_at, said_numbers, said_first, SaysNext}
+use Rattle.sheet_text.specs.Meaning.{Numbers, row_of_numbers, numbers_fault, left_after, value_at, most_numbers, faulty_numbers, numbers_said}
+use Rattle.sheet_text.specs.declared.faults.Fault as found
+use Rattle.sheet_text.specs.declared.Word.{Word}
+use Rattle.std.proofs.Common.{Ok, Err}
+use Rattle.sheet_text.proofs.FaultLaws.{number_high, unless_faulty, unless_clear}
+use Rattle.sheet_text.proofs.WordLaws.{word_end_lem}
 
 -- A word that is a number, and fits.
 number_fits : (most : ℕ) (w : List ℕ) → number_fault most w ≡ 0 → value_of w ≤ most
@@ -50,14 +50,6 @@ field_said_lem most left field e z = go (has_word left) refl
         let v : field.value ≡ value_of (word_of left) = ap (λ (f : Field). f.value) s ∙ pick_true _ _ _ (eq-eqb (number_fault most (word_of left)) 0 n) in
         record { stop_is = ap (λ (f : Field). f.stop) s; value_is = v; fits = omega (arith, v, number_fits most (word_of left) n) }
     go false h = absurd (omega (arith, z, ap (λ (f : Field). f.fault) (same false h)))
-
-pub field_place : (most : ℕ) (left : List ℕ) → (field_said most left).place ≤ length left
-unfolding field_said
-field_place most left = go (has_word left)
-  where
-    go : (b : Bool) → (pick {A = Field} b (record { fault = (number_said most (word_of left)).fault; place = blanks_of left; stop = word_end left; value = (number_said most (word_of left)).value }) (record { fault = 35; place = 0; stop = 0; value = 0 })).place ≤ length left
-    go true = before_short Visible left
-    go false = omega arith
 
 -- Number k of `count`, where `left` begins at a column of the line.
 module _ (count k line column : ℕ) (left : List ℕ) (field : Field) (h : k < count) (e : field ≡ field_said (number_limit k) left) where
@@ -87,84 +79,81 @@ module _ (count line column : ℕ) (left : List ℕ) where
   unfolding numbers_said
   said_good = unless_clear _ faulty_numbers (numbers_fault count 0 line column left)
 
--- A loop that takes the numbers stands at number k, at place `at` of what was left.
-pub record Taken (count line column : ℕ) (left : List ℕ) (values : List ℕ) (at k : ℕ) : Type 0 where
-  pub few : count ≤ most_numbers
-  pub within : k ≤ count
-  pub inside : at ≤ length left
-  pub rest : drop at left ≡ left_after k left
-  pub fault : numbers_fault count 0 line column left ≡ numbers_fault (count - k) k line (column + at) (drop at left)
-  pub filled : values ≡ padded most_numbers k (value_at left) 0
+-- A loop that takes the numbers of a line from a place on stands at number k.
+pub record Taken (count line : ℕ) (content : List ℕ) (place : ℕ) (values : List ℕ) (at k : ℕ) : Type 0 where
+  pub inside : at ≤ length content
+  pub rest : drop at content ≡ left_after k (drop place content)
+  pub fault : numbers_fault count 0 line (place + 1) (drop place content) ≡ numbers_fault (count - k) k line (at + 1) (drop at content)
+  pub filled : Stored (value_at (drop place content)) 0 count values k
 
-module _ (count line column : ℕ) (left : List ℕ) where
-  pub taken_none : count ≤ most_numbers → Taken count line column left (0 ∷ 0 ∷ 0 ∷ 0 ∷ 0 ∷ []) 0 0
+module _ {count line : ℕ} {content : List ℕ} {place : ℕ} where
+  pub taken_none : place ≤ length content → Taken count line content place (replicate count 0) place 0
   unfolding left_after
-  taken_none few =
-      let c : column ≡ column + 0 = omega arith in
+  taken_none inside =
       let n : count ≡ count - 0 = omega arith in
       record {
-        few = few;
-        within = omega arith;
-        inside = omega arith;
+        inside = inside;
         rest = refl;
-        fault = ap₂ (λ (m n : ℕ). numbers_fault m 0 line n left) n c;
-        filled = padded_none (value_at left) 0 most_numbers;
+        fault = ap (λ (m : ℕ). numbers_fault m 0 line (place + 1) (drop place content)) n;
+        filled = stored_none _ 0 count _ (length-replicate count 0);
       }
 
-  module _ (values : List ℕ) (at k : ℕ) (t : Taken count line column left values at k) (h : k < count) (field : Field) (e : field ≡ field_said (number_limit k) (take (length left - at) (drop at left))) where
-    here : field ≡ field_said (number_limit k) (drop at left)
-    here = e ∙ ap (field_said (number_limit k)) (to_end left at)
+  module _ {values : List ℕ} {at k : ℕ} (t : Taken count line content place values at k) where
+    module _ (h : k < count) {most : ℕ} (limit : most ≡ number_limit k) where
+      here : field_said most (drop at content) ≡ field_said (number_limit k) (drop at content)
+      here = ap (λ (n : ℕ). field_said n (drop at content)) limit
 
-    pub taken_stop : (field.fault ≡ 0 → ⊥) → faulty_numbers (fault_at field.fault line (column + at + field.place)) ≡ numbers_said count line column left
-    taken_stop d = said_faulty count line column left _ (t.fault ∙ numbers_stop count k line (column + at) (drop at left) field h here d) d
+      pub taken_stop : (fault : found.Fault) → SaysNext line at (field_said most (drop at content)) (Err fault)
+          → faulty_numbers (numbered fault) ≡ numbers_said count line (place + 1) (drop place content)
+      taken_stop fault e =
+          let d : (numbered fault).number ≡ 0 → ⊥ = λ z. omega (arith, number_high fault.wrong) in
+          said_faulty count line (place + 1) (drop place content) (numbered fault)
+          (t.fault ∙ numbers_stop count k line (at + 1) (drop at content) (field_said most (drop at content)) h here (λ z. d (ap (λ (f : Fault). f.number) e ∙ z)) ∙ sym e) d
 
-    pub place_within : at + field.place ≤ length left
-    place_within = omega (arith, ap (λ (f : Field). f.place) here, field_place (number_limit k) (drop at left), length-drop at left, t.inside)
+      module _ (word : Word) (e : SaysNext line at (field_said most (drop at content)) (Ok word)) where
+        said : Said (number_limit k) (drop at content) (field_said most (drop at content))
+        said = field_said_lem (number_limit k) (drop at content) (field_said most (drop at content)) here e.0
 
-    module _ (z : field.fault ≡ 0) where
-      said : Said (number_limit k) (drop at left) field
-      said = field_said_lem (number_limit k) (drop at left) field here z
+        taken_within : word.stop ≤ length content
+        taken_within = omega (arith, e.2, said.stop_is, word_end_lem (drop at content), length-drop at content, t.inside)
 
-      pub taken_within : at + field.stop ≤ length left
-      taken_within = omega (arith, said.stop_is, word_end_lem (drop at left), length-drop at left, t.inside)
+        pub taken_more : Taken count line content place (set values k word.value) word.stop (k + 1)
+        unfolding left_after value_at
+        taken_more =
+            let field : Field = field_said most (drop at content) in
+            let after : drop word.stop content ≡ drop field.stop (drop at content) = ap (λ (n : ℕ). drop n content) e.2 ∙ sym (drop-drop field.stop at content) in
+            let v : word.value ≡ value_at (drop place content) k = e.3 ∙ said.value_is ∙ ap (λ (x : List ℕ). value_of (word_of x)) t.rest in
+            let c : at + 1 + field.stop ≡ word.stop + 1 = omega (arith, e.2) in
+            record {
+              inside = taken_within;
+              rest = after ∙ ap (λ (n : ℕ). drop n (drop at content)) said.stop_is ∙ ap after_word t.rest ∙ ap (λ (n : ℕ). left_after n (drop place content)) (sym (add-one k));
+              fault =
+                  t.fault ∙ numbers_more count k line (at + 1) (drop at content) field h here e.0
+                  ∙ ap₂ (λ (n : ℕ) (x : List ℕ). numbers_fault (count - (k + 1)) (k + 1) line n x) c (sym after);
+              filled = stored_more _ 0 count values k word.value t.filled h v;
+            }
 
-      pub taken_more : Taken count line column left (set values k field.value) (at + field.stop) (k + 1)
-      unfolding left_after value_at
-      taken_more =
-          let after : drop (at + field.stop) left ≡ drop field.stop (drop at left) = sym (drop-drop field.stop at left) in
-          let v : field.value ≡ value_at left k = said.value_is ∙ ap (λ (x : List ℕ). value_of (word_of x)) t.rest in
-          record {
-            few = t.few;
-            within = omega arith;
-            inside = taken_within;
-            rest = after ∙ ap (λ (n : ℕ). drop n (drop at left)) said.stop_is ∙ ap after_word t.rest ∙ ap (λ (n : ℕ). left_after n left) (sym (add-one k));
-            fault =
-                t.fault ∙ numbers_more count k line (column + at) (drop at left) field h here z
-                ∙ ap₂ (λ (n : ℕ) (x : List ℕ). numbers_fault (count - (k + 1)) (k + 1) line n x) (add_assoc column at field.stop) (sym after);
-            filled = ap₂ (λ (x : List ℕ) (y : ℕ). set x k y) t.filled v ∙ padded_more (value_at left) 0 most_numbers k (omega (arith, t.few));
-          }
+    -- All are taken, and the blanks that follow have been counted.
+    module _ (h : count ≡ k) {blanks : ℕ} (e : blanks ≡ blanks_of (drop at content)) where
+      last : numbers_fault count 0 line (place + 1) (drop place content) ≡ pick (has_word (drop at content)) (fault_at MANY line (at + 1 + blanks)) no_fault
+      unfolding numbers_fault
+      last =
+          let n : count - k ≡ 0 = omega arith in
+          t.fault ∙ rw (n, numbers_fault, e)
 
-  -- All are taken, and the blanks that follow have been counted.
-  module _ (values : List ℕ) (at k : ℕ) (t : Taken count line column left values at k) (h : count ≤ k) (blanks : ℕ) (e : blanks ≡ blanks_of (take (length left - at) (drop at left))) where
-    there : blanks ≡ blanks_of (drop at left)
-    there = e ∙ ap blanks_of (to_end left at)
+      pub taken_many : at + blanks < length content → faulty_numbers (fault_at MANY line (at + blanks + 1)) ≡ numbers_said count line (place + 1) (drop place content)
+      taken_many l =
+          let c : at + 1 + blanks ≡ at + blanks + 1 = omega arith in
+          said_faulty count line (place + 1) (drop place content) (fault_at MANY line (at + blanks + 1))
+          (last ∙ pick_true _ _ _ (lt-ltb (blanks_of (drop at content)) (length (drop at content)) (omega (arith, e, length-drop at content))) ∙ ap (fault_at MANY line) c)
+          (λ z. omega arith)
 
-    last : numbers_fault count 0 line column left ≡ pick (has_word (drop at left)) (fault_at MANY line (column + at + blanks)) no_fault
-    unfolding numbers_fault
-    last =
-        let n : count - k ≡ 0 = omega arith in
-        t.fault ∙ rw (n, numbers_fault, there)
-
-    pub taken_many : blanks < length left - at → faulty_numbers (fault_at MANY line (column + at + blanks)) ≡ numbers_said count line column left
-    taken_many l =
-        said_faulty count line column left _ (last ∙ pick_true _ _ _ (lt-ltb (blanks_of (drop at left)) (length (drop at left)) (omega (arith, there, length-drop at left)))) (λ z. omega arith)
-
-    pub taken_all : length left - at ≤ blanks → record { fault = no_fault; values = values } ≡ numbers_said count line column left
-    taken_all l =
-        let z = last ∙ pick_false _ _ _ (le-ltb (blanks_of (drop at left)) (length (drop at left)) (omega (arith, there, length-drop at left))) in
-        let c : k ≡ count = omega (arith, t.within) in
-        ap (λ (x : List ℕ). record { fault = no_fault; values = x }) (t.filled ∙ ap (λ (n : ℕ). padded most_numbers n (value_at left) 0) c)
-        ∙ said_good count line column left (ap (λ (x : Fault). x.number) z)
+      pub taken_all : length content ≤ at + blanks → said_numbers count (Ok values) ≡ numbers_said count line (place + 1) (drop place content)
+      taken_all l =
+          let z = last ∙ pick_false _ _ _ (le-ltb (blanks_of (drop at content)) (length (drop at content)) (omega (arith, e, length-drop at content))) in
+          ap (λ (x : List ℕ). record { fault = no_fault; values = x })
+          (padded_same (number_at values) (value_at (drop place content)) 0 most_numbers count (λ i l. t.filled.done i (omega arith)))
+          ∙ said_good count line (place + 1) (drop place content) (ap (λ (x : Fault). x.number) z)
 
 first_fits : (n line column : ℕ) (left : List ℕ) → (numbers_fault (suc n) 0 line column left).number ≡ 0 → value_at left 0 ≤ 255
 unfolding numbers_fault value_at left_after
@@ -173,7 +162,7 @@ first_fits n line column left z =
     omega (arith, s.value_is, s.fits)
 
 -- The first number of a line is a byte.
-pub first_byte : (n line column : ℕ) (left : List ℕ) → get_or (numbers_said (suc n) line column left).values 0 0 ≤ 255
+first_byte : (n line column : ℕ) (left : List ℕ) → get_or (numbers_said (suc n) line column left).values 0 0 ≤ 255
 first_byte n line column left = go (ℕ_discrete (numbers_fault (suc n) 0 line column left).number 0)
   where
     f : Fault
@@ -184,3 +173,21 @@ first_byte n line column left = go (ℕ_discrete (numbers_fault (suc n) 0 line c
         let e = ap (λ (x : Numbers). get_or x.values 0 0) (said_good (suc n) line column left z) in
         omega (arith, e, padded_at (value_at left) 0 most_numbers (suc n) 0 0 (omega arith) (omega arith), first_fits n line column left z)
     go (no d) = let e = ap (λ (x : Numbers). get_or x.values 0 0) (said_faulty (suc n) line column left f refl d) in omega (arith, e)
+
+pub first_fits_byte : (n line column : ℕ) (left values : List ℕ) → said_numbers (suc n) (Ok values) ≡ numbers_said (suc n) line column left → get_or values 0 0 ≤ 255
+first_fits_byte n line column left values e =
+    omega (
+      arith,
+      padded_at (number_at values) 0 most_numbers (suc n) 0 0 (omega arith) (omega arith),
+      ap (λ (x : Numbers). get_or x.values 0 0) e,
+      first_byte n line column left,
+    )
+
+-- N alone, and the five numbers of a row.
+pub first_alone : (values : List ℕ) → said_first (Ok (get_or values 0 0)) ≡ said_numbers 1 (Ok values)
+unfolding tab_from
+first_alone values = refl
+
+pub row_alone : (values : List ℕ) → row_of_numbers values ≡ row_of_numbers (said_numbers most_numbers (Ok values)).values
+unfolding tab_from
+row_alone values = refl

@@ -14,7 +14,8 @@ use Rattle.sheet.specs.declared.Row.{Row}
 use Rattle.sheet.specs.declared.Set.{Set}
 use Rattle.sheet.specs.declared.Refusal.{Refusal}
 use Rattle.sheet.specs.declared.Reading.{Reading}
-use Rattle.sheet.specs.Refusals.{accepted, accepts}
+use Rattle.std.specs.Prelude.{Ok}
+use Rattle.sheet.specs.Refusals.{accepted, accepts, carried}
 use Rattle.sheet.specs.Layout.{processors_of, count_of, row_at}
 use Rattle.sheet.specs.Ranges.{most_processors, most_rows, zero_row, row_in, row_fault, set_row_fault, set_refusal, InRange}
 use Rattle.sheet.specs.Reading.{read_refusal, set_of, read_sheet}
@@ -25,14 +26,12 @@ use Rattle.sheet.proofs.WritingLaws as writing
 use Rattle.sheet.proofs.RoundTrip.{read_taken, read_write, written_read}
 use Rattle.text.specs.Lines.{lines_to}
 use Rattle.text.specs.Refusing.{refused_line}
-use Rattle.sheet_text.specs.Faults.{LONG, fault_at}
+use Rattle.sheet_text.specs.Faults.{LONG, Fault, fault_at}
 use Rattle.sheet_text.specs.Words.{lines_of}
 use Rattle.sheet_text.specs.Meaning as said
-use Rattle.sheet_text.specs.Meaning.{TextLine, worded, first_line_said, rows_fault, meant, meant_nothing, rows_meant, page_meant, most_bytes, meaning_of}
+use Rattle.sheet_text.specs.Meaning.{TextLine, Meaning, worded, first_line_said, rows_fault, meant, meant_nothing, rows_meant, page_meant, most_bytes, meaning_of}
 use Rattle.sheet_text.specs.Composing.{refused_text, answer_of, compose_answer, composed}
 use Rattle.sheet_text.specs.Listing.{first_text, heading, row_text, row_text_of, listing, listed, plain}
-use Rattle.sheet_text.specs.declared.Fault.{Fault}
-use Rattle.sheet_text.specs.declared.Meaning.{Meaning}
 use Rattle.sheet_text.proofs.ListingLaws.{RowWithin, Sayable, listing_said}
 
 -- What the writer takes, a text can say.
@@ -97,9 +96,11 @@ listing_trimmed set c =
     (lines_same (row_text_of (row_in (trimmed set))) (row_text_of (row_in set)) set.count
     (λ i l. ap row_text (padded_at (row_in set) zero_row most_rows set.count i zero_row (omega arith) l)))
 
-listed_reading : (s : List ℕ) (set : Set) → read_sheet s ≡ record { refusal = accepted; set = set } → listed s ≡ listing set
-unfolding listed read_sheet
-listed_reading s set e = ap (λ (r : Reading). pick (accepts r.refusal) (listing r.set) (refused_line r.refusal)) e
+listed_reading : (s : List ℕ) (set : Set) → read_sheet s ≡ record { refusal = Ok (tt {0}); set = set } → listed s ≡ listing set
+unfolding listed
+listed_reading s set e =
+    ap (λ (r : Refusal). pick (accepts r) (listing (read_sheet s).set) (refused_line r)) (sym (reading.read_carried s))
+    ∙ ap (λ (r : Reading). pick (accepts (carried r.refusal)) (listing r.set) (refused_line (carried r.refusal))) e
 
 -- A meaning without a fault is a set, and its rows past the count are zero.
 abbrev Proper : Meaning → Type 0

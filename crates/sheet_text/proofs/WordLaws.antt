@@ -1,50 +1,34 @@
--- Laws of marks, words and numbers, as the loops that go through a text's bytes need them.
-use Prim.Native.Nat.{ℕ, suc, ◌+◌, ◌*◌, ◌-◌, ◌≤◌, ◌<◌}
+-- Laws of marks, words and numbers, as the code that goes through a text's bytes needs them.
+use Prim.Native.Nat.{ℕ, suc, ◌+◌, ◌*◌, ◌-◌, ◌≤◌, ◌<◌, min}
 use mathlib.Core.Path.{◌≡◌, refl, sym, ap, ◌∙◌}
-use mathlib.Core.Bool.{Bool, true, false}
+use mathlib.Core.Bool.{Bool, true, false, cond, ◌&&◌}
 use mathlib.Core.List.{List, [], ◌∷◌}
 use native.Mathlib.Omega.{arith}
 use native.Mathlib.Decide.{dec_lt}
 use native.Mathlib.Numerals.{add-one}
 use lib.ListN.{length, get_or, take, drop, length-drop, drop_of_length-le}
-use lib.Seq.{drop-cons, take_all, take-take}
+use lib.Seq.{drop-cons, take_all, take-take, drop-drop}
 use lib.Dec.{eqb}
-use borrow.Author.Tests.{eq-eqb, ne_eqb, lt-ltb, le-ltb}
+use borrow.Author.Tests.{lt-ltb, le-ltb}
+use Rattle.std.specs.Option.{unwrap_or}
+use Rattle.std.specs.List.{position, position_or_len}
+use Rattle.std.specs.Cmp.Lexicographic.{pointwise}
+use Rattle.std.proofs.Common.{Ok, Err}
+use Rattle.std.proofs.lemmas.List.Recursion.{is_position_or_len}
 use Rattle.laws.specs.Choice.{first_of}
 use Rattle.laws.specs.ChoiceLaws.{pick_true}
-use Rattle.sheet_text.specs.Faults.{NUMBER, LARGE, FEW}
-use Rattle.sheet_text.specs.Words.{is_mark, is_digit, bytes_before, content_of, blanks_of, has_word, word_of, word_end, same_bytes, all_digits, value_from, value_of, number_fault, number_said, field_said}
-use Rattle.sheet_text.specs.Parts.{first_line, too_large, capped, cut_of}
+use Rattle.sheet_text.specs.Faults.{NUMBER, LARGE, FEW, fault_at, number_of}
+use Rattle.sheet_text.specs.Words.{Number, Field, is_mark, is_digit, bytes_before, content_of, blanks_of, word_of, word_end, same_bytes, all_digits, value_from, value_of, number_fault, number_said, field_said}
+use Rattle.sheet_text.specs.Parts.{first_line, after_line, too_large, capped, said_number, SaysNext}
 use Rattle.sheet_text.specs.declared.Mark.{Mark}
 use Rattle.sheet_text.specs.declared.Mark.TheVariants.{Newline, Hash, Blank, Visible}
-use Rattle.sheet_text.specs.declared.Field.{Field}
-use Rattle.sheet_text.specs.declared.Number.{Number}
+use Rattle.sheet_text.specs.declared.faults.Wrong.{Wrong}
 
 -- What is left of a list from place i on begins with element i.
 next : (t : List ℕ) (i : ℕ) → i < length t → drop i t ≡ get_or t i 0 ∷ drop (i + 1) t
 next t i h = rw (add-one i) (drop-cons t i 0 h)
 
--- A loop that looks for a mark stands at i.
 module _ (m : Mark) where
-  hit : (b : ℕ) (t : List ℕ) → is_mark m b ≡ true → length (bytes_before m (b ∷ t)) ≡ 0
-  unfolding bytes_before
-  hit b t e = rw (e, bytes_before)
-
-  skip : (b : ℕ) (t : List ℕ) → is_mark m b ≡ false → bytes_before m (b ∷ t) ≡ b ∷ bytes_before m t
-  unfolding bytes_before
-  skip b t e = rw (e, bytes_before)
-
-  pub before_hit : (t : List ℕ) (i : ℕ) → i < length t → is_mark m (get_or t i 0) ≡ true → length (bytes_before m (drop i t)) ≡ 0
-  before_hit t i h e = ap (λ (x : List ℕ). length (bytes_before m x)) (next t i h) ∙ hit (get_or t i 0) (drop (i + 1) t) e
-
-  pub before_skip : (t : List ℕ) (i : ℕ) → i < length t → is_mark m (get_or t i 0) ≡ false
-      → length (bytes_before m (drop i t)) ≡ suc (length (bytes_before m (drop (i + 1) t)))
-  before_skip t i h e = ap (λ (x : List ℕ). length (bytes_before m x)) (next t i h) ∙ ap length (skip (get_or t i 0) (drop (i + 1) t) e)
-
-  pub before_end : (t : List ℕ) (i : ℕ) → length t ≤ i → length (bytes_before m (drop i t)) ≡ 0
-  unfolding bytes_before
-  before_end t i h = ap (λ (x : List ℕ). length (bytes_before m x)) (drop_of_length-le t {i = i} h)
-
   -- What stands before a mark is a beginning of the text.
   pub before_short : (t : List ℕ) → length (bytes_before m t) ≤ length t
   unfolding bytes_before
@@ -65,33 +49,40 @@ module _ (m : Mark) where
       go true ih = refl
       go false ih = ap (λ (x : List ℕ). b ∷ x) ih
 
--- A loop that compares two lists of one length stands at i.
-same_next : (a b : List ℕ) (i : ℕ) → i < length a → i < length b
-    → same_bytes (drop i a) (drop i b) ≡ elim (eqb (get_or a i 0) (get_or b i 0)) [ true ↦ same_bytes (drop (i + 1) a) (drop (i + 1) b) | false ↦ false ]
+  before_step : (b : ℕ) (t : List ℕ) → length (bytes_before m (b ∷ t)) ≡ cond (is_mark m b) 0 (1 + length (bytes_before m t))
+  unfolding bytes_before
+  before_step b t = go (is_mark m b)
+    where
+      go : (x : Bool) → length {A = ℕ} (elim x [ true ↦ [] | false ↦ b ∷ bytes_before m t ]) ≡ cond x 0 (1 + length (bytes_before m t))
+      go true = refl
+      go false = omega arith
+
+  before_none : length (bytes_before m []) ≡ 0
+  unfolding bytes_before
+  before_none = refl
+
+  -- Its length is the place of the first mark, or the text's length.
+  pub before_position : (t : List ℕ) → unwrap_or (position (is_mark m) t) (length t) ≡ length (bytes_before m t)
+  before_position t = go (dec_lt (length (bytes_before m t)) (length t))
+    where
+      same : length (bytes_before m t) ≡ position_or_len (is_mark m) t
+      same = is_position_or_len (λ (x : List ℕ). length (bytes_before m x)) (is_mark m) before_none before_step t
+
+      go : Dec (length (bytes_before m t) < length t) → unwrap_or (position (is_mark m) t) (length t) ≡ length (bytes_before m t)
+      go (yes h) = rw (← same, lt-ltb (length (bytes_before m t)) (length t) h)
+      go (no h) = rw (← same, le-ltb (length (bytes_before m t)) (length t) (omega arith)) (omega (arith, before_short t))
+
+-- Bytes are compared as the library compares them.
+pub same_pointwise : (a b : List ℕ) → same_bytes a b ≡ pointwise eqb a b
 unfolding same_bytes
-same_next a b i p q = rw (next a i p, next b i q, same_bytes)
-
-pub same_differs : (a b : List ℕ) (i : ℕ) → i < length a → i < length b → (get_or a i 0 ≡ get_or b i 0 → ⊥) → same_bytes (drop i a) (drop i b) ≡ false
-same_differs a b i p q d = same_next a b i p q ∙ rw (ne_eqb (get_or a i 0) (get_or b i 0) d)
-
-pub same_more : (a b : List ℕ) (i : ℕ) → i < length a → i < length b → get_or a i 0 ≡ get_or b i 0
-    → same_bytes (drop i a) (drop i b) ≡ same_bytes (drop (i + 1) a) (drop (i + 1) b)
-same_more a b i p q e = same_next a b i p q ∙ rw (eq-eqb (get_or a i 0) (get_or b i 0) e)
-
-pub same_end : (a b : List ℕ) (i : ℕ) → length a ≤ i → length b ≤ i → same_bytes (drop i a) (drop i b) ≡ true
-unfolding same_bytes
-same_end a b i p q = rw (drop_of_length-le a {i = i} p, drop_of_length-le b {i = i} q, same_bytes)
-
-pub same_lengths : (a b : List ℕ) → (length a ≡ length b → ⊥) → same_bytes a b ≡ false
-unfolding same_bytes
-same_lengths [] [] d = absurd (d refl)
-same_lengths [] (y ∷ b) d = refl
-same_lengths (x ∷ a) [] d = refl
-same_lengths (x ∷ a) (y ∷ b) d = go (eqb x y) (same_lengths a b (λ e. d (ap suc e)))
+same_pointwise [] [] = refl
+same_pointwise [] (y ∷ b) = refl
+same_pointwise (x ∷ a) [] = refl
+same_pointwise (x ∷ a) (y ∷ b) = go (eqb x y) (same_pointwise a b)
   where
-    go : (t : Bool) → same_bytes a b ≡ false → elim t [ true ↦ same_bytes a b | false ↦ false ] ≡ false
-    go true ih = ih
-    go false ih = refl
+    go : (t : Bool) → same_bytes a b ≡ pointwise eqb a b → elim t [ true ↦ same_bytes a b | false ↦ false ] ≡ (t && pointwise eqb a b)
+    go true h = h
+    go false h = refl
 
 -- A loop that reads a number stands at i of its word.
 pub digits_stop : (w : List ℕ) (i : ℕ) → i < length w → is_digit (get_or w i 0) ≡ false → all_digits (drop i w) ≡ false
@@ -130,6 +121,13 @@ pub capped_most : (v : ℕ) → capped v ≤ too_large
 capped_most v = go (dec_lt too_large v)
   where
     go : Dec (too_large < v) → capped v ≤ too_large
+    go (yes h) = omega (arith, capped_high v h)
+    go (no h) = omega (arith, capped_low v (omega arith))
+
+pub capped_min : (v : ℕ) → capped v ≡ min v too_large
+capped_min v = go (dec_lt too_large v)
+  where
+    go : Dec (too_large < v) → capped v ≡ min v too_large
     go (yes h) = omega (arith, capped_high v h)
     go (no h) = omega (arith, capped_low v (omega arith))
 
@@ -187,36 +185,58 @@ pub word_end_lem : (line : List ℕ) → word_end line ≤ length line
 word_end_lem line =
     omega (arith, before_short Visible line, before_short Blank (drop (blanks_of line) line), length-drop (blanks_of line) line)
 
--- The next word of what is left of a line, where its blanks and its bytes have been counted.
-module _ (left : List ℕ) (start size : ℕ) (blanks : start ≡ blanks_of left) (bytes : size ≡ length (bytes_before Blank (take (length left - start) (drop start left)))) where
-  word_here : bytes_before Blank (drop start left) ≡ word_of left
-  word_here = ap (λ (a : ℕ). bytes_before Blank (drop a left)) blanks
+-- The next word of a line from a place on, where its blanks and its bytes have been counted.
+module _ (content : List ℕ) (place : ℕ) (inside : place ≤ length content) (blanks start size : ℕ)
+    (blanks_is : blanks ≡ blanks_of (drop place content)) (start_is : start ≡ place + blanks)
+    (bytes : size ≡ length (bytes_before Blank (take (length content - start) (drop start content)))) where
+  left : List ℕ
+  left = drop place content
 
-  pub word_size : size ≡ length (word_of left)
-  word_size = bytes ∙ ap (λ (x : List ℕ). length (bytes_before Blank x)) (to_end left start) ∙ ap length word_here
+  word_here : bytes_before Blank (drop start content) ≡ word_of left
+  unfolding left
+  word_here =
+      ap (λ (a : ℕ). bytes_before Blank (drop a content)) (start_is ∙ ap (λ (a : ℕ). place + a) blanks_is)
+      ∙ ap (bytes_before Blank) (sym (drop-drop (blanks_of left) place content))
 
-  pub word_within : start + size ≤ length left
-  word_within = omega (arith, word_end_lem left, blanks, word_size)
+  pub word_size : size ≡ length (word_of (drop place content))
+  unfolding left
+  word_size = bytes ∙ ap (λ (x : List ℕ). length (bytes_before Blank x)) (to_end content start) ∙ ap length word_here
 
-  pub word_part : take (start + size - start) (drop start left) ≡ word_of left
+  pub word_part : take (start + size - start) (drop start content) ≡ word_of (drop place content)
+  unfolding left
   word_part =
-      let e : start + size - start ≡ length (bytes_before Blank (drop start left)) = omega (arith, word_size, ap length word_here) in
-      ap (λ (n : ℕ). take n (drop start left)) e ∙ before_take Blank (drop start left) ∙ word_here
+      let e : start + size - start ≡ length (bytes_before Blank (drop start content)) = omega (arith, word_size, ap length word_here) in
+      ap (λ (n : ℕ). take n (drop start content)) e ∙ before_take Blank (drop start content) ∙ word_here
 
-  pub field_good : (most : ℕ) (number : Number) → start < length left → number ≡ number_said most (take (start + size - start) (drop start left))
-      → record { fault = number.fault; place = start; stop = start + size; value = number.value } ≡ field_said most left
-  unfolding field_said
-  field_good most number h e =
-      let n : number ≡ number_said most (word_of left) = e ∙ ap (number_said most) word_part in
-      let said : Field = record { fault = (number_said most (word_of left)).fault; place = blanks_of left; stop = blanks_of left + length (word_of left); value = (number_said most (word_of left)).value } in
-      let e : record { fault = number.fault; place = start; stop = start + size; value = number.value } ≡ said =
-      λ i. record { fault = (n i).fault; place = blanks i; stop = blanks i + word_size i; value = (n i).value } in
-      e ∙ sym (pick_true _ _ _ (lt-ltb (blanks_of left) (length left) (omega (arith, blanks))))
+  -- What it says in a number's place.
+  module _ (most : ℕ) (there : start < length content) where
+    field_here : field_said most (drop place content) ≡ record { fault = (number_said most (word_of (drop place content))).fault; place = blanks_of (drop place content); stop = word_end (drop place content); value = (number_said most (word_of (drop place content))).value }
+    unfolding field_said
+    field_here = pick_true _ _ _ (lt-ltb (blanks_of (drop place content)) (length (drop place content)) (omega (arith, start_is, blanks_is, length-drop place content)))
 
-pub field_none : (most : ℕ) (left : List ℕ) (start : ℕ) → start ≡ blanks_of left → length left ≤ start
-    → record { fault = FEW; place = 0; stop = 0; value = 0 } ≡ field_said most left
+    pub field_good : (line value : ℕ) → said_number (Ok value) ≡ number_said most (take (start + size - start) (drop start content))
+        → SaysNext line place (field_said most (drop place content)) (Ok (record { place = start; stop = start + size; value = value }))
+    field_good line value e =
+        let n = e ∙ ap (number_said most) word_part in (
+          ap (λ (f : Field). f.fault) field_here ∙ ap (λ (x : Number). x.fault) (sym n),
+          omega (arith, ap (λ (f : Field). f.place) field_here, start_is, blanks_is),
+          omega (arith, ap (λ (f : Field). f.stop) field_here, start_is, blanks_is, word_size),
+          ap (λ (x : Number). x.value) n ∙ ap (λ (f : Field). f.value) (sym field_here),
+        )
+
+    pub field_bad : (line : ℕ) (wrong : Wrong) → said_number (Err wrong) ≡ number_said most (take (start + size - start) (drop start content))
+        → fault_at (number_of wrong) line (start + 1) ≡ fault_at (field_said most (drop place content)).fault line (place + 1 + (field_said most (drop place content)).place)
+    field_bad line wrong e =
+        let n = e ∙ ap (number_said most) word_part in
+        let f : number_of wrong ≡ (field_said most (drop place content)).fault = ap (λ (x : Number). x.fault) n ∙ ap (λ (f : Field). f.fault) (sym field_here) in
+        let c : start + 1 ≡ place + 1 + (field_said most (drop place content)).place = omega (arith, ap (λ (f : Field). f.place) field_here, start_is, blanks_is) in
+        λ i. fault_at (f i) line (c i)
+
+-- No word is left.
+pub field_none : (most line place : ℕ) (left : List ℕ) → length left ≤ blanks_of left
+    → fault_at FEW line (place + 1) ≡ fault_at (field_said most left).fault line (place + 1 + (field_said most left).place)
 unfolding field_said
-field_none most left start e h = rw (le-ltb (blanks_of left) (length left) (omega (arith, e)))
+field_none most line place left h = rw (le-ltb (blanks_of left) (length left) h) (ap (fault_at FEW line) (omega arith))
 
 -- The first line of what is left of a text, where its end and its content's have been found.
 module _ (text : List ℕ) (end stop : ℕ) (line_is : end ≡ length (bytes_before Newline text)) (content_is : stop ≡ length (bytes_before Hash (take end text))) where
@@ -234,14 +254,14 @@ module _ (text : List ℕ) (end stop : ℕ) (line_is : end ≡ length (bytes_bef
       ∙ before_take Hash (take end text)
       ∙ ap (bytes_before Hash) line_here
 
-  pub line_within : end ≤ length text
-  line_within = omega (arith, line_is, before_short Newline text)
-
-  pub content_within : stop ≤ end
-  content_within = omega (arith, line_is, content_here, before_short Hash (first_line text))
-
-  pub cut_is : (worded : Bool) → worded ≡ has_word (take stop text) → record { stop = stop; after = end + 1; worded = worded } ≡ cut_of text
-  unfolding cut_of
-  cut_is worded e =
-      let w : worded ≡ has_word (content_of (first_line text)) = e ∙ ap has_word content_part in
-      λ i. record { stop = content_here i; after = line_is i + 1; worded = w i }
+-- What stands after the first line: nothing, where the text ends with it.
+pub after_part : (text : List ℕ) (end : ℕ) → end ≡ length (bytes_before Newline text) → drop (min (end + 1) (length text)) text ≡ after_line text
+after_part text end e = go (dec_lt (length text) (end + 1))
+  where
+    go : Dec (length text < end + 1) → drop (min (end + 1) (length text)) text ≡ after_line text
+    go (yes h) =
+        drop_of_length-le text {i = min (end + 1) (length text)} (omega arith)
+        ∙ sym (drop_of_length-le text {i = length (first_line text) + 1} (omega (arith, e)))
+    go (no h) =
+        let n : min (end + 1) (length text) ≡ length (first_line text) + 1 = omega (arith, e) in
+        ap (λ (k : ℕ). drop k text) n

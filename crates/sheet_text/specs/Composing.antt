@@ -1,5 +1,5 @@
 -- Composing: a text's set, written as a sheet.
-use Rattle.std.specs.Prelude.{ℕ, List, [], ◌∷◌, ◌++◌, eqb, leb}
+use Rattle.std.specs.Prelude.{ℕ, ◌≡◌, List, [], ◌∷◌, ◌++◌, eqb, leb, Result, Ok, Err}
 use Rattle.laws.specs.Choice.{pick}
 use Rattle.sheet.specs.declared.Refusal.{Refusal}
 use Rattle.sheet.specs.Refusals.{refused, accepts}
@@ -9,10 +9,11 @@ use Rattle.text.specs.Ascii.{ascii}
 use Rattle.text.specs.Decimal.{decimal}
 use Rattle.text.specs.Lines.{line}
 use Rattle.text.specs.Refusing.{refused_line}
-use Rattle.sheet_text.specs.Faults.{LONG, FIRST, NUMBER, LARGE, FEW, MANY, ROWS, unless}
-use Rattle.sheet_text.specs.Meaning.{meaning_of}
-use Rattle.sheet_text.specs.declared.Fault.{Fault}
+use Rattle.sheet_text.specs.Faults.{LONG, FIRST, NUMBER, LARGE, FEW, MANY, ROWS, Fault, numbered, no_fault, unless}
+use Rattle.sheet_text.specs.Meaning.{Meaning, meaning_of}
 use Rattle.sheet_text.specs.declared.Answer.{Answer}
+use Rattle.sheet_text.specs.declared.Refused.{Refused}
+use Rattle.sheet_text.specs.declared.Refused.TheVariants.{Text, Sheet}
 
 abbrev pub refused_text : Fault → Answer
 refused_text f = record { number = f.number; row = 0; line = f.line; column = f.column; length = 0 }
@@ -25,6 +26,20 @@ answer_of r n = record { number = r.number; row = r.row; line = 0; column = 0; l
 unfoldable pub compose_answer : List ℕ → ℕ → Answer
 compose_answer text room =
     unless (meaning_of text).fault (answer_of (write_refusal (meaning_of text).set room) (meaning_of text).set.count) refused_text
+
+-- The answer that a refusal is, and what composing hands back.
+abbrev pub refused_answer : Refused → Answer
+refused_answer (Text fault) = refused_text (numbered fault)
+refused_answer (Sheet refusal) = record { number = refusal.number; row = refusal.row; line = 0; column = 0; length = 0 }
+
+abbrev pub said_answer : Result ℕ Refused → Answer
+said_answer (Ok size) = record { number = 0; row = 0; line = 0; column = 0; length = size }
+said_answer (Err refused) = refused_answer refused
+
+-- What is refused is refused for its own fault, and where it has none by the writer.
+abbrev pub RefusedFor : Meaning → ℕ → Refused → Type 0
+RefusedFor m room (Text fault) = numbered fault ≡ m.fault
+RefusedFor m room (Sheet refusal) = (m.fault ≡ no_fault) × (refusal ≡ write_refusal m.set room)
 
 -- What a buffer holds afterwards.
 unfoldable pub composed : List ℕ → List ℕ → List ℕ

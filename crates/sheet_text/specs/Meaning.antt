@@ -6,12 +6,8 @@ use Rattle.sheet.specs.declared.Row.{Row}
 use Rattle.sheet.specs.declared.Set.{Set}
 use Rattle.sheet.specs.Ranges.{most_rows, zero_row, zero_set}
 use Rattle.text.specs.Ascii.{ascii}
-use Rattle.sheet_text.specs.Faults.{LONG, FIRST, MANY, ROWS, fault_at, no_fault, or_else, unless}
+use Rattle.sheet_text.specs.Faults.{LONG, FIRST, MANY, ROWS, Fault, fault_at, no_fault, or_else, unless}
 use Rattle.sheet_text.specs.Words.{lines_of, content_of, blanks_of, has_word, word_of, word_end, after_word, same_bytes, value_of, field_said, number_limit}
-use Rattle.sheet_text.specs.declared.Fault.{Fault}
-use Rattle.sheet_text.specs.declared.Numbers.{Numbers}
-use Rattle.sheet_text.specs.declared.RowSaid.{RowSaid}
-use Rattle.sheet_text.specs.declared.Meaning.{Meaning}
 
 -- A line with words: its number, and what it says.
 pub record TextLine : Type 0 where
@@ -44,6 +40,19 @@ value_at line k = value_of (word_of (left_after k line))
 
 abbrev pub most_numbers : ℕ
 most_numbers = 5
+
+-- What a line says beside its fault: numbers, or a row; and what a text says beside its fault.
+pub record Numbers : Type 0 where
+  pub fault : Fault
+  pub values : List ℕ
+
+pub record RowSaid : Type 0 where
+  pub fault : Fault
+  pub row : Row
+
+pub record Meaning : Type 0 where
+  pub fault : Fault
+  pub set : Set
 
 abbrev pub faulty_numbers : Fault → Numbers
 faulty_numbers fault = record { fault = fault; values = replicate most_numbers 0 }

@@ -5,8 +5,6 @@ use Rattle.laws.specs.Choice.{pick, ◌gives◌, first_of}
 use Rattle.sheet_text.specs.Faults.{NUMBER, LARGE, FEW}
 use Rattle.sheet_text.specs.declared.Mark.{Mark}
 use Rattle.sheet_text.specs.declared.Mark.TheVariants.{Newline, Hash, Blank, Visible}
-use Rattle.sheet_text.specs.declared.Number.{Number}
-use Rattle.sheet_text.specs.declared.Field.{Field}
 
 -- The space, the tab and the carriage return.
 abbrev pub is_blank : ℕ → Bool
@@ -81,9 +79,20 @@ value_of word = value_from 0 word
 unfoldable pub number_fault : (most : ℕ) → List ℕ → ℕ
 number_fault most word = first_of (not (all_digits word) gives NUMBER ∷ ltb most (value_of word) gives LARGE ∷ [])
 
+pub record Number : Type 0 where
+  pub fault : ℕ
+  pub value : ℕ
+
 unfoldable pub number_said : (most : ℕ) → List ℕ → Number
 number_said most word =
     record { fault = number_fault most word; value = pick (eqb (number_fault most word) 0) (value_of word) 0 }
+
+-- The next number of a line: the place of its word, or of its fault, and where the word ends.
+pub record Field : Type 0 where
+  pub fault : ℕ
+  pub place : ℕ
+  pub stop : ℕ
+  pub value : ℕ
 
 -- What is left of a line says a number next. Without a word the fault is at its beginning, where the word before has ended.
 unfoldable pub field_said : (most : ℕ) → List ℕ → Field

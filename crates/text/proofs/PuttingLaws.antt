@@ -1,13 +1,17 @@
 -- Laws of text put into a buffer: nothing, one byte, and one text after another.
 use Prim.Native.Nat.{ℕ, ◌+◌, ◌-◌, ◌≤◌, ◌<◌, min}
-use mathlib.Core.Path.{◌≡◌, sym, ap, ap₂, ◌∙◌}
+use mathlib.Core.Path.{◌≡◌, refl, sym, ap, ap₂, ◌∙◌}
 use mathlib.Core.List.{List, [], ◌∷◌, ◌++◌, append_assoc, append-nil}
 use native.Mathlib.Omega.{arith}
 use native.Mathlib.Decide.{dec_lt}
 use native.Mathlib.Numerals.{add-one}
-use lib.ListN.{length, get_or, take, drop, set, take-append-drop, length-append, length-take, length-drop, drop_of_length-le}
-use lib.Seq.{take_all, take-suc, take-nil, take-append-le, take-append-add, take-append_seam, drop-append-add, drop-drop, set_split}
-use Rattle.text.specs.Putting.{with_text, end_after, Puts}
+use borrow.Rule.Slice.PartMut.{put_mid}
+use Rattle.std.proofs.lemmas.List.{take_min}
+use lib.ListN.{length, take, drop, set, take-append-drop, length-append, length-take, length-drop, drop_of_length-le}
+use lib.Seq.{take_all, take-nil, take-append-le, take-append-add, take-append_seam, drop-append-add, drop-drop, set_split}
+use Rattle.std.specs.Borrow.{MutBor}
+use Rattle.text.specs.declared.Text.{Text}
+use Rattle.text.specs.Putting.{with_text, end_after, Puts, Begins, Adds}
 use Rattle.text.specs.Lines.{lines_to}
 
 -- From a place past the buffer's end nothing fits.
@@ -35,6 +39,25 @@ pub puts_byte : (b : List ℕ) (e x : ℕ) → e < length b → Puts (x ∷ []) 
 unfolding with_text end_after
 puts_byte b e x h =
     record { buffer_is = rw (set_split b e x h, take_all (length b - e) (x ∷ []) (omega arith), add-one e); end_is = omega arith }
+
+-- What lies behind a text that goes on to the buffer's end, and not past it.
+behind_part : (b : List ℕ) (e m : ℕ) → drop (e + min (length b - e) m) b ≡ drop (e + m) b
+behind_part b e m = go (dec_lt (e + m) (length b))
+  where
+    go : Dec (e + m < length b) → drop (e + min (length b - e) m) b ≡ drop (e + m) b
+    go (yes h) =
+        let n : min (length b - e) m ≡ m = omega arith in
+        ap (λ k. drop (e + k) b) n
+    go (no h) = drop_of_length-le b {i = e + min (length b - e) m} (omega arith) ∙ sym (drop_of_length-le b {i = e + m} (omega arith))
+
+-- As much of the text as there is room for is copied.
+pub puts_part : (b : List ℕ) (e n k : ℕ) (t part : List ℕ) → n ≡ min (length b - e) (length t) → k ≡ n → part ≡ take n t → Puts t b e (put_mid e k b part) (e + n)
+unfolding with_text end_after
+puts_part b e n k t part h i p =
+    record {
+      buffer_is = rw (p, i, drop-drop n e b, h, take_min (length b - e) t, behind_part b e (length t));
+      end_is = omega arith;
+    }
 
 -- Where all of the text fits.
 fits : (b : List ℕ) (e : ℕ) (t : List ℕ) → e + length t ≤ length b → with_text b e t ≡ (take e b ++ t) ++ drop (e + length t) b
@@ -98,6 +121,17 @@ puts_then {s} {t} {b₀} {b₁} {b₂} {e₀} {e₁} {e₂} p q =
           ∙ then_end (length b₀) e₀ s t;
     }
 
+pub adds_none : (text : Text) → Adds [] text text
+adds_none text = record { same_buffer = refl; puts = puts_none _ _ }
+
+pub adds_then : {s t : List ℕ} {first next last : Text} → Adds s first next → Adds t next last → Adds (s ++ t) first last
+adds_then p q = record { puts = puts_then p.puts q.puts; same_buffer = q.same_buffer ∙ p.same_buffer }
+
+-- What the lender of the buffer has in the end.
+pub puts_lent : {t after : List ℕ} {start finish : ℕ} {buffer : MutBor (List ℕ)} {first last : Text}
+    → Begins buffer start first → Adds t first last → after ≡ last.buffer.now → finish ≡ last.end → Puts t buffer.now start after finish
+puts_lent b p a f = rw (a, f, ← b.buffer_is, ← b.end_is) p.puts
+
 pub puts_length : {t b b' : List ℕ} {e e' : ℕ} → Puts t b e b' e' → length b' ≡ length b
 puts_length {t} {b} {b'} {e} p = ap length p.buffer_is ∙ length_with b e t
 
@@ -105,17 +139,12 @@ pub puts_within : {t b b' : List ℕ} {e e' : ℕ} → Puts t b e b' e' → e �
 unfolding end_after
 puts_within {t} {b} {b'} {e} p h = omega (arith, p.end_is, puts_length p)
 
--- A loop puts a text byte by byte.
-pub puts_next : (t : List ℕ) (i : ℕ) {b₀ b₁ b₂ : List ℕ} {e₀ e₁ e₂ : ℕ} → i < length t
-    → Puts (take i t) b₀ e₀ b₁ e₁ → Puts (get_or t i 0 ∷ []) b₁ e₁ b₂ e₂ → Puts (take (i + 1) t) b₀ e₀ b₂ e₂
-puts_next t i h p q = rw (add-one i, take-suc t i 0 h) (puts_then p q)
-
 -- A loop puts lines one after the other.
 module _ (line_of : ℕ → List ℕ) where
-  pub lines_none : (b : List ℕ) (e : ℕ) → Puts (lines_to line_of 0) b e b e
+  pub lines_none : (text : Text) → Adds (lines_to line_of 0) text text
   unfolding lines_to
-  lines_none b e = puts_none b e
+  lines_none text = adds_none text
 
-  pub lines_more : (i : ℕ) {b₀ b₁ b₂ : List ℕ} {e₀ e₁ e₂ : ℕ} → Puts (lines_to line_of i) b₀ e₀ b₁ e₁ → Puts (line_of i) b₁ e₁ b₂ e₂ → Puts (lines_to line_of (i + 1)) b₀ e₀ b₂ e₂
+  pub lines_more : (i : ℕ) {first next last : Text} → Adds (lines_to line_of i) first next → Adds (line_of i) next last → Adds (lines_to line_of (i + 1)) first last
   unfolding lines_to
-  lines_more i p q = rw (add-one i) (puts_then p q)
+  lines_more i p q = rw (add-one i) (adds_then p q)

@@ -1,57 +1,104 @@
-// Text put into a lent buffer, piece by piece: each call takes the place where the text so far ends and answers the
-// place where it then ends. What no longer fits is left out.
+// Text put into a lent buffer, piece by piece. What no longer fits is left out. `write!` is no plainer: it answers a
+// `Result`, and nothing here can fail.
 #![tactic(auto)]
 
-ghost use Rattle.std.specs.Prelude.{[], ◌∷◌, ◌++◌};
+ghost use Rattle.std.specs.Prelude.{◌≡◌, ℕ, ◌<◌, List, [], ◌∷◌, ◌++◌, take};
 ghost use Rattle.text.specs.Decimal.{decimal};
-ghost use Rattle.text.specs.Putting.{Puts};
+ghost use Rattle.text.specs.Lines.{lines_to};
+ghost use Rattle.text.specs.Putting.{Begins, Adds, EachAdds};
 ghost use Rattle.text.specs.Refusing.{refused_line};
 
 const MOST_DIGITS: usize = 20;
 
-pub fn put_byte(buffer: &mut [u8], end: usize, byte: u8) -> usize
-    ensures { Puts (byte ∷ []) buffer.old end buffer.new result }
-{
-    if buffer.len() <= end {
-        return end;
+// A lent buffer, and where the text in it so far ends.
+#[derive(Drop)]
+pub struct Text<'a> {
+    buffer: &'a mut [u8],
+    end: usize,
+}
+
+impl<'a> Text<'a> {
+    pub fn new(buffer: &'a mut [u8]) -> Text<'a>
+        ensures { Begins buffer.entry 0 result }
+    {
+        Text::at(buffer, 0)
     }
-    buffer[end] = byte;
-    end + 1
-}
 
-pub fn put(buffer: &mut [u8], end: usize, text: &[u8]) -> usize
-    ensures { Puts text.now buffer.old end buffer.new result }
-{
-    let mut at = end;
-    let mut i: usize = 0;
-    while i < text.len() {
-        at = put_byte(buffer, at, text[i]);
-        i += 1;
+    // A text that goes on from any place, which may lie past the end of the buffer.
+    pub fn at(buffer: &'a mut [u8], end: usize) -> Text<'a>
+        ensures { Begins buffer.entry end result }
+    {
+        Text { buffer, end }
     }
-    at
-}
 
-pub fn put_number(buffer: &mut [u8], end: usize, number: u64) -> usize
-    ensures { Puts (decimal number) buffer.old end buffer.new result }
-{
-    let mut digits = [0u8; MOST_DIGITS];
-    let count = io::decimal(number, &mut digits);
-    put(buffer, end, &digits[..count])
-}
+    pub fn end(&self) -> usize
+        ensures { result ≡ self.now.end }
+    {
+        self.end
+    }
 
-// A number, and the byte that parts it from what follows.
-pub fn put_field(buffer: &mut [u8], end: usize, number: u64, mark: u8) -> usize
-    ensures { Puts (decimal number ++ (mark ∷ [])) buffer.old end buffer.new result }
-{
-    let end = put_number(buffer, end, number);
-    put_byte(buffer, end, mark)
-}
+    // What stands before the end; all of the buffer where the end lies past it.
+    pub fn written(&self) -> &[u8]
+        ensures { result.now ≡ take self.now.end self.now.buffer.now }
+    {
+        &self.buffer[..self.end.min(self.buffer.len())]
+    }
 
-pub fn put_refusal(buffer: &mut [u8], end: usize, refusal: sheet::Refusal) -> usize
-    ensures { Puts (refused_line refusal) buffer.old end buffer.new result }
-{
-    let end = put(buffer, end, b"refused ");
-    let end = put_field(buffer, end, refusal.number as u64, b' ');
-    let end = put_field(buffer, end, refusal.row as u64, b' ');
-    put_field(buffer, end, refusal.instance as u64, b'\n')
+    pub fn put_byte(&mut self, byte: u8)
+        ensures { Adds (byte ∷ []) self.old self.new }
+    {
+        if self.end < self.buffer.len() {
+            self.buffer[self.end] = byte;
+            self.end += 1;
+        }
+    }
+
+    pub fn put(&mut self, text: &[u8])
+        ensures { Adds text.now self.old self.new }
+    {
+        if self.buffer.len() <= self.end {
+            return;
+        }
+        let count = (self.buffer.len() - self.end).min(text.len());
+        let end = self.end + count;
+        self.buffer[self.end..end].copy_from_slice(&text[..count]);
+        self.end = end;
+    }
+
+    pub fn put_number(&mut self, number: u64)
+        ensures { Adds (decimal number) self.old self.new }
+    {
+        let mut digits = [0u8; MOST_DIGITS];
+        let count = io::decimal(number, &mut digits);
+        self.put(&digits[..count]);
+    }
+
+    // A number, and the byte that parts it from what follows.
+    pub fn put_field(&mut self, number: u64, mark: u8)
+        ensures { Adds (decimal number ++ (mark ∷ [])) self.old self.new }
+    {
+        self.put_number(number);
+        self.put_byte(mark);
+    }
+
+    pub fn put_refusal(&mut self, refusal: sheet::Refusal)
+        ensures { Adds (refused_line refusal) self.old self.new }
+    {
+        self.put(b"refused ");
+        self.put_field(u64::from(refusal.number), b' ');
+        // There is no `u64::from` of a `usize`.
+        self.put_field(refusal.row as u64, b' ');
+        self.put_field(u64::from(refusal.instance), b'\n');
+    }
+
+    // A line for each number below the count, in turn.
+    pub fn put_lines<F: Fn(&mut Text, usize)>(&mut self, count: usize, put_line: F)
+        requires { (i : ℕ) (text : _) → i < count → F.pre put_line text i }
+        ensures { (line_of : ℕ → List ℕ) → EachAdds (F.post put_line) line_of count
+            → Adds (lines_to line_of count) self.old self.new }
+    {
+        for i in 0..count {
+            put_line(self, i);
+        }
+    }
 }

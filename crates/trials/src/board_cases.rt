@@ -12,190 +12,165 @@
 //   b              the state is what was last kept aside, or the fresh start
 // The digest goes over the start's refusal and state, and each call's answer and state; of n, over
 // all the answers and then the last state.
-use crate::{line, numbers, poke};
-use board::{Beat, Hand, Job, Place, Standing, State, Token};
+// `as` stands where a number is shown to fit, and where a `usize` is met, which has no `From`.
+use crate::digest::Digest;
+use crate::line::Line;
+use crate::numbers;
+use crate::poke::poke;
+use board::{Beat, Job, Standing, Started, State};
 use sheet::Refusal;
 
-#[derive(Clone, Copy)]
+// Past every processor.
+const NOBODY: u64 = 256;
+
+#[derive(Drop)]
 struct Play {
     state: State,
     kept: State,
-    digest: u64,
-    end: usize,
+    digest: Digest,
 }
 
-fn number_of_hand(hand: Hand) -> u64 {
-    match hand {
-        Hand::Free => 4294967296,
-        Hand::Holds(row) => row as u64,
-    }
+// As `poke` takes it.
+fn number_of_hand(hand: Option<u32>) -> u64 {
+    hand.map_or(1 << 32, u64::from)
 }
 
+// As `poke` takes it: what it is in the upper half, the ticks left in the lower.
 fn number_of_standing(standing: Standing) -> u64 {
     match standing {
         Standing::Absent => 0,
-        Standing::Waiting => 4294967296,
-        Standing::Memory(left) => 8589934592 + left as u64,
-        Standing::Computation(left) => 12884901888 + left as u64,
+        Standing::Waiting => 1 << 32,
+        Standing::Memory(left) => 2 << 32 | u64::from(left),
+        Standing::Computation(left) => 3 << 32 | u64::from(left),
     }
 }
 
-fn number_of_token(token: Token) -> u64 {
-    match token {
-        Token::Nobody => 256,
-        Token::Processor(p) => p as u64,
+fn numbers_of_job(job: Job) -> [u64; 5] {
+    [
+        u64::from(job.ever),
+        u64::from(job.last),
+        number_of_standing(job.standing),
+        u64::from(job.worst),
+        u64::from(job.completed),
+    ]
+}
+
+// What is printed of a tick: its number, the token's processor and the completed rows.
+fn numbers_of_beat(answer: Result<Beat, Refusal>) -> [u64; 3] {
+    match answer {
+        Ok(beat) => [
+            0,
+            beat.token.map_or(NOBODY, u64::from),
+            u64::from(beat.completed),
+        ],
+        Err(refusal) => [u64::from(refusal.number), NOBODY, 0],
     }
 }
 
-fn mix_places(digest: u64, places: [Place; 8]) -> u64 {
-    let mut mixed = digest;
-    let mut p = 0;
-    while p < 8 {
-        let place = places[p];
-        let hand = place.hand;
-        mixed = numbers::mix(mixed, number_of_hand(hand));
-        p += 1;
+fn take_state(digest: &mut Digest, state: &State) {
+    digest.take_all(&[u64::from(state.set.processors), state.set.count as u64]);
+    digest.take_rows(&state.set.rows);
+    digest.take(u64::from(state.clock));
+    digest.take_all(&state.hands.map(number_of_hand));
+    for job in &state.jobs {
+        digest.take_all(&numbers_of_job(*job));
     }
-    mixed
 }
 
-fn number_of_bool(yes: bool) -> u64 {
-    if yes { 1 } else { 0 }
+fn take_beat(digest: &mut Digest, answer: Result<Beat, Refusal>) {
+    let [_, token, completed] = numbers_of_beat(answer);
+    digest.take_all(&numbers::of_answer(answer.map(|_| ())));
+    digest.take_all(&[token, completed]);
 }
 
-fn mix_job(digest: u64, job: Job) -> u64 {
-    let standing = job.standing;
-    let digest = numbers::mix(digest, number_of_bool(job.ever));
-    let digest = numbers::mix(digest, job.last as u64);
-    let digest = numbers::mix(digest, number_of_standing(standing));
-    let digest = numbers::mix(digest, job.worst as u64);
-    numbers::mix(digest, job.completed as u64)
-}
-
-fn mix_jobs(digest: u64, jobs: [Job; 32]) -> u64 {
-    let mut mixed = digest;
-    let mut r = 0;
-    while r < 32 {
-        mixed = mix_job(mixed, jobs[r]);
-        r += 1;
+impl Play {
+    fn new(started: Started) -> Play {
+        let mut digest = Digest::of(&numbers::of_answer(started.refusal));
+        take_state(&mut digest, &started.state);
+        Play {
+            state: started.state,
+            kept: started.state,
+            digest,
+        }
     }
-    mixed
-}
 
-fn mix_state(digest: u64, state: State) -> u64 {
-    let set = state.set;
-    let rows = set.rows;
-    let places = state.places;
-    let jobs = state.jobs;
-    let digest = numbers::mix(digest, set.processors as u64);
-    let digest = numbers::mix(digest, set.count as u64);
-    let digest = numbers::mix_rows(digest, rows);
-    let digest = numbers::mix(digest, state.clock as u64);
-    let digest = mix_places(digest, places);
-    mix_jobs(digest, jobs)
-}
-
-fn mix_beat(digest: u64, beat: Beat) -> u64 {
-    let token = beat.token;
-    let digest = numbers::mix_refusal(digest, beat.refusal);
-    let digest = numbers::mix(digest, number_of_token(token));
-    numbers::mix(digest, beat.completed as u64)
-}
-
-fn put_beat(line: &mut [u8], end: usize, beat: Beat) -> usize {
-    let refusal = beat.refusal;
-    let token = beat.token;
-    let end = line::put_number(line, end, refusal.number as u64);
-    let end = line::put_number(line, end, number_of_token(token));
-    line::put_number(line, end, beat.completed as u64)
-}
-
-fn tick(line: &mut [u8], play: Play, told: bool) -> Play {
-    let mut play = play;
-    let state = play.state;
-    let ticked = state.tick();
-    let after = ticked.state;
-    let beat = ticked.answer;
-    play.state = after;
-    play.digest = mix_beat(play.digest, beat);
-    if told {
-        play.end = put_beat(line, play.end, beat);
+    fn tick(&mut self) -> Result<Beat, Refusal> {
+        let ticked = self.state.tick();
+        self.state = ticked.state;
+        take_beat(&mut self.digest, ticked.answer);
+        ticked.answer
     }
-    play
-}
 
-fn ticks(line: &mut [u8], play: Play, count: u64, told: bool) -> Play {
-    let mut played = play;
-    let mut left = count;
-    while left > 0 {
-        played = tick(line, played, told);
-        left -= 1;
+    // Each answer is told; then the digest takes in the state. Whoever is handed `tell` has to ask that it may be called.
+    fn ticks<F: Fn(&mut Line, &[u64])>(&mut self, line: &mut Line, count: u64, tell: &F)
+        requires { F.IsAlwaysCallable tell.now }
+    {
+        for _ in 0..count {
+            tell(line, &numbers_of_beat(self.tick()));
+        }
+        take_state(&mut self.digest, &self.state);
     }
-    played
-}
 
-fn release(line: &mut [u8], play: Play, row: usize, told: bool) -> Play {
-    let mut play = play;
-    let state = play.state;
-    let released = state.release(row);
-    let after = released.state;
-    let refusal = released.answer;
-    play.state = after;
-    play.digest = numbers::mix_refusal(play.digest, refusal);
-    if told {
-        play.end = line::put_number(line, play.end, refusal.number as u64);
+    fn release<F: Fn(&mut Line, &[u64])>(&mut self, line: &mut Line, row: usize, tell: &F)
+        requires { F.IsAlwaysCallable tell.now }
+    {
+        let released = self.state.release(row);
+        let [number, row, instance] = numbers::of_answer(released.answer);
+        self.state = released.state;
+        self.digest.take_all(&[number, row, instance]);
+        tell(line, &[number]);
+        take_state(&mut self.digest, &self.state);
     }
-    play
-}
 
-// After a call the digest takes in the state.
-fn called(play: Play) -> Play {
-    let mut play = play;
-    let state = play.state;
-    play.digest = mix_state(play.digest, state);
-    play
-}
+    fn poke(&mut self, said: &[u8]) {
+        if let [field, index, value @ ..] = said {
+            let value = numbers::number_in(value);
+            poke(&mut self.state, *field, usize::from(*index), value);
+        }
+    }
 
-fn keep(play: Play) -> Play {
-    let mut play = play;
-    let state = play.state;
-    play.kept = state;
-    play
-}
+    fn carry_out<F: Fn(&mut Line, &[u64])>(
+        &mut self,
+        line: &mut Line,
+        letter: u8,
+        said: &[u8],
+        tell: &F,
+    )
+        requires { F.IsAlwaysCallable tell.now }
+    {
+        match letter {
+            b't' => self.ticks(line, 1, tell),
+            b'n' => self.ticks(line, numbers::number_in(said), tell),
+            b'r' | b'R' => self.release(line, numbers::number_in(said) as usize, tell),
+            b'p' => self.poke(said),
+            b'k' => self.kept = self.state,
+            b'b' => self.state = self.kept,
+            _ => {}
+        }
+    }
 
-fn go_back(play: Play) -> Play {
-    let mut play = play;
-    let kept = play.kept;
-    play.state = kept;
-    play
-}
-
-fn set_field(play: Play, command: &[u8]) -> Play {
-    let mut play = play;
-    let field = numbers::number_at(command, 1, 1);
-    let index = numbers::number_at(command, 2, 1) as usize;
-    let value = numbers::number_at(command, 3, 8);
-    let state = play.state;
-    let after = poke::poked(state, field, index, value);
-    play.state = after;
-    play
-}
-
-fn carry_out(line: &mut [u8], play: Play, letter: u8, command: &[u8], told: bool) -> Play {
-    match letter {
-        b't' => called(tick(line, play, told)),
-        b'n' => called(ticks(line, play, numbers::number_at(command, 1, 2), told)),
-        b'r' => called(release(line, play, numbers::number_at(command, 1, 1) as usize, told)),
-        b'R' => called(release(line, play, numbers::number_at(command, 1, 8) as usize, told)),
-        b'p' => set_field(play, command),
-        b'k' => keep(play),
-        b'b' => go_back(play),
-        _ => play,
+    // Up to a command whose numbers are cut off. Commands differ in length, so the loop goes by what is left.
+    fn carry_out_all<F: Fn(&mut Line, &[u64])>(
+        &mut self,
+        line: &mut Line,
+        commands: &[u8],
+        tell: &F,
+    )
+        requires { F.IsAlwaysCallable tell.now }
+    {
+        let mut left = commands;
+        while let Some((letter, rest)) = left.split_first() {
+            let Some((said, after)) = rest.split_at_checked(length_of(*letter)) else {
+                return;
+            };
+            self.carry_out(line, *letter, said, tell);
+            left = after;
+        }
     }
 }
 
 // How many bytes follow a command's letter.
-fn numbers_of(letter: u8) -> usize {
+fn length_of(letter: u8) -> usize {
     match letter {
         b'n' => 2,
         b'r' => 1,
@@ -205,44 +180,18 @@ fn numbers_of(letter: u8) -> usize {
     }
 }
 
-fn carry_out_all(line: &mut [u8], play: Play, commands: &[u8], told: bool) -> Play {
-    let mut played = play;
-    let mut at = 0;
-    while at < commands.len() {
-        let letter = commands[at];
-        let more = numbers_of(letter);
-        if more >= commands.len() - at {
-            return played;
-        }
-        let next = at + more + 1;
-        played = carry_out(line, played, letter, &commands[at..next], told);
-        at = next;
-    }
-    played
-}
-
-fn begin(end: usize, state: State, refusal: Refusal) -> Play {
-    Play {
-        state: state,
-        kept: state,
-        digest: mix_state(numbers::mix_refusal(0, refusal), state),
-        end: end,
-    }
-}
-
-pub fn put_play(line: &mut [u8], end: usize, case: &[u8], told: bool) -> usize {
-    if case.len() < 2 {
-        return end;
-    }
-    let length = numbers::number_at(case, 0, 2) as usize;
-    if length > case.len() - 2 {
-        return end;
-    }
-    let from = length + 2;
-    let started = board::start(&case[2..from]);
-    let state = started.state;
-    let end = line::put_refusal(line, end, started.refusal);
-    let play = begin(end, state, started.refusal);
-    let played = carry_out_all(line, play, &case[from..], told);
-    line::put_digest(line, played.end, played.digest)
+pub fn put_play<F: Fn(&mut Line, &[u64])>(line: &mut Line, case: &[u8], tell: F)
+    requires { F.IsAlwaysCallable tell }
+{
+    let Some((length, rest)) = case.split_at_checked(2) else {
+        return;
+    };
+    let Some((sheet, commands)) = rest.split_at_checked(numbers::number_in(length) as usize) else {
+        return;
+    };
+    let started = board::start(sheet);
+    line.put_numbers(&numbers::of_answer(started.refusal));
+    let mut play = Play::new(started);
+    play.carry_out_all(line, commands, &tell);
+    line.put_digest(play.digest);
 }

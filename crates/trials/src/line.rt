@@ -1,49 +1,58 @@
-// One line of output in the making: a buffer, and where its text ends. What no longer fits is left
-// out, so that a line too long shows as one that differs.
+// One line of output in the making. What no longer fits is left out, so that a line too long shows as one that differs.
 
-use sheet::Refusal;
+use crate::digest::Digest;
 use std::io::{Print, Result, Stdout};
+use text::Text;
 
-// A space and the number's decimal digits.
-pub fn put_number(line: &mut [u8], end: usize, number: u64) -> usize {
-    let end = text::put_byte(line, end, b' ');
-    text::put_number(line, end, number)
+#[derive(Drop)]
+pub struct Line<'a> {
+    text: Text<'a>,
 }
 
-pub fn put_refusal(line: &mut [u8], end: usize, refusal: Refusal) -> usize {
-    let end = put_number(line, end, refusal.number as u64);
-    let end = put_number(line, end, refusal.row as u64);
-    put_number(line, end, refusal.instance as u64)
-}
-
-// A space and 16 hexadecimal digits.
-pub fn put_digest(line: &mut [u8], end: usize, digest: u64) -> usize {
-    let mut digits = [0u8; 16];
-    let count = io::hex(digest, 16, &mut digits);
-    let end = text::put_byte(line, end, b' ');
-    text::put(line, end, &digits[..count])
-}
-
-// A space and two hexadecimal digits for each byte.
-pub fn put_bytes(line: &mut [u8], end: usize, bytes: &[u8]) -> usize {
-    let mut at = text::put_byte(line, end, b' ');
-    let mut i = 0;
-    while i < bytes.len() {
-        at = put_hex(line, at, bytes[i]);
-        i += 1;
+impl<'a> Line<'a> {
+    pub fn new(buffer: &'a mut [u8]) -> Line<'a> {
+        Line {
+            text: Text::new(buffer),
+        }
     }
-    at
-}
 
-pub fn write(output: Stdout, line: &[u8], end: usize) -> Result<()> {
-    if end <= line.len() {
-        return output.write_all(&line[..end]);
+    pub fn put_byte(&mut self, byte: u8) {
+        self.text.put_byte(byte);
     }
-    Ok(())
-}
 
-fn put_hex(line: &mut [u8], end: usize, byte: u8) -> usize {
-    let mut digits = [0u8; 16];
-    let count = io::hex(byte as u64, 2, &mut digits);
-    text::put(line, end, &digits[..count])
+    // A space and the number's decimal digits.
+    pub fn put_number(&mut self, number: u64) {
+        self.put_byte(b' ');
+        self.text.put_number(number);
+    }
+
+    pub fn put_numbers<N: Copy + Into<u64>>(&mut self, numbers: &[N]) {
+        for number in numbers {
+            self.put_number((*number).into());
+        }
+    }
+
+    // A space and 16 hexadecimal digits.
+    pub fn put_digest(&mut self, digest: Digest) {
+        self.put_byte(b' ');
+        self.put_hex(digest.0, 16);
+    }
+
+    // A space and two hexadecimal digits for each byte.
+    pub fn put_bytes(&mut self, bytes: &[u8]) {
+        self.put_byte(b' ');
+        for byte in bytes {
+            self.put_hex(u64::from(*byte), 2);
+        }
+    }
+
+    fn put_hex(&mut self, number: u64, width: usize) {
+        let mut digits = [0; 16];
+        let count = io::hex(number, width, &mut digits);
+        self.text.put(&digits[..count]);
+    }
+
+    pub fn write(&self, output: Stdout) -> Result<()> {
+        output.write_all(self.text.written())
+    }
 }

@@ -2,111 +2,122 @@
 //
 // A case is its kind (1 byte), the length of its payload (3 bytes), a number of zeros (3 bytes) and
 // the payload; its input is the payload followed by that many zero bytes. Every number is
-// big-endian, a row is 17 bytes as in a sheet, and a digest is that of `numbers::mix` from 0 on. The
-// kinds are told in the files of their cases.
+// big-endian, a row is 17 bytes as in a sheet, and a digest is a `Digest` of numbers. The kinds are
+// told in the files of their cases.
+// `as` stands where a number is shown to fit, and where a `usize` is met, which has no `From`.
 #![tactic(auto)]
 
 mod board_cases;
 mod bounds_cases;
+mod digest;
 mod line;
 mod numbers;
 mod poke;
 mod sheet_cases;
 mod text_cases;
 
-ghost use Rattle.std.specs.Prelude.{◌≡◌, length};
+ghost use Rattle.std.specs.Prelude.{◌≤◌};
 
 use input::read_input;
+use line::Line;
 use std::io::{Result, Stdin, Stdout};
 
 const HEAD: usize = 7;
 
 const SHORT: usize = 4096;
 
+// A sheet's stated length wraps at 65,536 bytes: some cases go past that.
+const LONG: usize = 66000;
+
 // A proved loop has to end, and nothing says that the input does.
 const MOST_CASES: u64 = 100000;
 
-fn put_case(line: &mut [u8], end: usize, kind: u8, case: &[u8]) -> usize {
+// What a case begins with: its kind, and how long its payload and its input are.
+#[derive(Clone, Copy)]
+struct Head {
+    kind: u8,
+    length: usize,
+    end: usize,
+}
+
+// For the kinds that print a digest alone.
+fn no_more<T>(_line: &mut Line, _more: &[T]) {}
+
+// The kind is the input's letter, as a command is among the board's cases.
+fn put_case(line: &mut Line, kind: u8, case: &[u8]) {
     match kind {
-        b'R' => sheet_cases::put_reading(line, end, case),
-        b'F' => sheet_cases::put_fields(line, end, case),
-        b'S' => sheet_cases::put_shown(line, end, case),
-        b'W' => sheet_cases::put_set(line, end, case, false),
-        b'V' => sheet_cases::put_set(line, end, case, true),
-        b'A' => bounds_cases::put_bounds(line, end, case, false),
-        b'B' => bounds_cases::put_bounds(line, end, case, true),
-        b'P' => board_cases::put_play(line, end, case, false),
-        b'Q' => board_cases::put_play(line, end, case, true),
-        b'T' => text_cases::put_text(line, end, case, false),
-        b'L' => text_cases::put_text(line, end, case, true),
-        _ => end,
+        b'R' => sheet_cases::put_reading(line, case, no_more),
+        b'F' => sheet_cases::put_reading(line, case, sheet_cases::put_rows),
+        b'S' => sheet_cases::put_shown(line, case),
+        b'W' => sheet_cases::put_set(line, case, no_more),
+        b'V' => sheet_cases::put_set(line, case, |line, bytes| line.put_bytes(bytes)),
+        b'A' => bounds_cases::put_bounds(line, case, no_more),
+        b'B' => bounds_cases::put_bounds(line, case, |line, places| line.put_numbers(places)),
+        b'P' => board_cases::put_play(line, case, no_more),
+        b'Q' => board_cases::put_play(line, case, |line, answer| line.put_numbers(answer)),
+        b'T' => text_cases::put_text(line, case, text_cases::put_composed),
+        b'L' => text_cases::put_text(line, case, text_cases::put_listed),
+        _ => {}
     }
 }
 
-fn run(output: Stdout, line: &mut [u8], kind: u8, case: &[u8]) -> Result<()> {
-    let end = text::put_byte(line, 0, kind);
-    let end = put_case(line, end, kind, case);
-    let end = text::put_byte(line, end, b'\n');
-    line::write(output, line, end)
+fn run(output: Stdout, kind: u8, case: &[u8]) -> Result<()> {
+    let mut buffer = io::buffer();
+    let mut line = Line::new(&mut buffer);
+    line.put_byte(kind);
+    put_case(&mut line, kind, case);
+    line.put_byte(b'\n');
+    line.write(output)
 }
 
-fn read_payload(input: &mut Stdin, space: &mut [u8], length: usize) -> bool {
-    if length > space.len() {
-        return false;
+fn read_head(input: &mut Stdin) -> Option<Head> {
+    let mut bytes = [0; HEAD];
+    if read_input(input, &mut bytes) < HEAD {
+        return None;
     }
-    read_input(input, &mut space[..length]) == length
+    let length = numbers::number_in(&bytes[1..4]) as usize;
+    let zeros = numbers::number_in(&bytes[4..]) as usize;
+    Some(Head {
+        kind: bytes[0],
+        length,
+        end: length.saturating_add(zeros),
+    })
 }
 
-// Runs the case whose input is `length` bytes still to be read and then zeros up to `end`, in a
-// space of zeros; false where the input ends too soon.
-fn run_in(rt: HostRuntime, space: &mut [u8], kind: u8, length: usize, end: usize) -> Result<bool> {
-    if !read_payload(&mut rt.stdin(), space, length) {
+// Runs the case that still has to be read, in a space of zeros; false where the input ends too soon.
+fn run_in<const SPACE: usize>(rt: HostRuntime, head: Head) -> Result<bool>
+    requires { SPACE ≤ LONG }
+{
+    let mut space = [0; SPACE];
+    let Some(payload) = space.get_mut(..head.length) else {
+        return Ok(false);
+    };
+    if read_input(&mut rt.stdin(), payload) < head.length {
         return Ok(false);
     }
-    if end > space.len() {
+    let Some(case) = space.get(..head.end) else {
         return Ok(false);
-    }
-    let mut line = io::buffer();
-    run(rt.stdout(), &mut line, kind, &space[..end])?;
+    };
+    run(rt.stdout(), head.kind, case)?;
     Ok(true)
 }
 
-fn run_short(rt: HostRuntime, kind: u8, length: usize, end: usize) -> Result<bool> {
-    let mut space = io::buffer();
-    run_in(rt, &mut space, kind, length, end)
-}
-
-// A sheet's stated length wraps at 65,536 bytes: some cases go past that.
-fn long_space() -> [u8; 66000]
-    ensures { 66000 ≡ length result }
-{
-    [0; 66000]
-}
-
-fn run_long(rt: HostRuntime, kind: u8, length: usize, end: usize) -> Result<bool> {
-    let mut space = long_space();
-    run_in(rt, &mut space, kind, length, end)
-}
-
-// Runs the next case; false where there is none.
-fn run_next(rt: HostRuntime) -> Result<bool> {
-    let mut head = [0u8; HEAD];
-    if read_input(&mut rt.stdin(), &mut head) < HEAD {
-        return Ok(false);
+fn run_case(rt: HostRuntime, head: Head) -> Result<bool> {
+    if head.end <= SHORT {
+        run_in::<SHORT>(rt, head)
+    } else {
+        run_in::<LONG>(rt, head)
     }
-    let length = numbers::number_at(&head, 1, 3) as usize;
-    let zeros = numbers::number_at(&head, 4, 3) as usize;
-    let end = length.wrapping_add(zeros);
-    if end <= SHORT {
-        return run_short(rt, head[0], length, end);
-    }
-    run_long(rt, head[0], length, end)
 }
 
 fn main(rt: HostRuntime) -> Result<()> {
-    let mut left = MOST_CASES;
-    while left > 0 && run_next(rt)? {
-        left -= 1;
+    for _ in 0..MOST_CASES {
+        let Some(head) = read_head(&mut rt.stdin()) else {
+            return Ok(());
+        };
+        if !run_case(rt, head)? {
+            return Ok(());
+        }
     }
     Ok(())
 }

@@ -4,31 +4,31 @@
 //   11 standing: the upper half modulo 4 says absent, waiting, memory, computation, the lower half the
 //   ticks left, 12 worst, 13 completed.
 // A row's or job's index counts modulo 32, a hand's modulo 8, a value modulo its field's range.
-use board::{Hand, Job, Place, Standing, State};
+// `as` stands where a number is shown to fit, and where a `usize` is met, which has no `From`.
+use board::{Job, Standing, State};
 use sheet::Row;
 
-fn low(value: u64) -> u32 {
+// Two functions, since a cast has no type parameter.
+fn low_word(value: u64) -> u32 {
     (value % 4294967296) as u32
 }
 
-fn lowest(value: u64) -> u8 {
+fn low_byte(value: u64) -> u8 {
     (value % 256) as u8
 }
 
-fn row_with(row: Row, field: u64, value: u64) -> Row {
-    let mut row = row;
+fn poke_row(row: &mut Row, field: u8, value: u64) {
     match field {
-        2 => row.processor = lowest(value),
-        3 => row.memory = low(value),
-        4 => row.computation = low(value),
-        5 => row.period = low(value),
-        _ => row.deadline = low(value),
+        2 => row.processor = low_byte(value),
+        3 => row.memory = low_word(value),
+        4 => row.computation = low_word(value),
+        5 => row.period = low_word(value),
+        _ => row.deadline = low_word(value),
     }
-    row
 }
 
 fn standing_of(value: u64) -> Standing {
-    let left = low(value);
+    let left = low_word(value);
     match (value >> 32) % 4 {
         0 => Standing::Absent,
         1 => Standing::Waiting,
@@ -37,84 +37,24 @@ fn standing_of(value: u64) -> Standing {
     }
 }
 
-fn hand_of(value: u64) -> Hand {
-    if value >= 4294967296 {
-        return Hand::Free;
-    }
-    Hand::Holds(low(value))
-}
-
-fn job_standing(job: Job, standing: Standing) -> Job {
-    Job {
-        ever: job.ever,
-        last: job.last,
-        standing: standing,
-        worst: job.worst,
-        completed: job.completed,
-    }
-}
-
-fn job_with(job: Job, field: u64, value: u64) -> Job {
-    let mut job = job;
+fn poke_job(job: &mut Job, field: u8, value: u64) {
     match field {
         9 => job.ever = value != 0,
-        10 => job.last = low(value),
-        11 => job = job_standing(job, standing_of(value)),
-        12 => job.worst = low(value),
-        _ => job.completed = low(value),
+        10 => job.last = low_word(value),
+        11 => job.standing = standing_of(value),
+        12 => job.worst = low_word(value),
+        _ => job.completed = low_word(value),
     }
-    job
 }
 
-fn set_with(state: State, field: u64, index: usize, value: u64) -> State {
-    let mut state = state;
-    let mut set = state.set;
-    let mut rows = set.rows;
+pub fn poke(state: &mut State, field: u8, index: usize, value: u64) {
     match field {
-        0 => set.processors = lowest(value),
-        1 => set.count = value as usize,
-        _ => {
-            let i = index % 32;
-            rows[i] = row_with(rows[i], field, value);
-            set.rows = rows;
-        }
-    }
-    state.set = set;
-    state
-}
-
-fn jobs_with(state: State, field: u64, index: usize, value: u64) -> State {
-    let mut state = state;
-    let mut jobs = state.jobs;
-    let i = index % 32;
-    jobs[i] = job_with(jobs[i], field, value);
-    state.jobs = jobs;
-    state
-}
-
-fn places_with(state: State, index: usize, value: u64) -> State {
-    let mut state = state;
-    let mut places = state.places;
-    let p = index % 8;
-    places[p] = Place {
-        hand: hand_of(value),
-    };
-    state.places = places;
-    state
-}
-
-fn clock_with(state: State, value: u64) -> State {
-    let mut state = state;
-    state.clock = low(value);
-    state
-}
-
-pub fn poked(state: State, field: u64, index: usize, value: u64) -> State {
-    match field {
-        0..=6 => set_with(state, field, index, value),
-        7 => clock_with(state, value),
-        8 => places_with(state, index, value),
-        9..=13 => jobs_with(state, field, index, value),
-        _ => state,
+        0 => state.set.processors = low_byte(value),
+        1 => state.set.count = value as usize,
+        2..=6 => poke_row(&mut state.set.rows[index % 32], field, value),
+        7 => state.clock = low_word(value),
+        8 => state.hands[index % 8] = u32::try_from(value).ok(),
+        9..=13 => poke_job(&mut state.jobs[index % 32], field, value),
+        _ => {}
     }
 }

@@ -5,103 +5,76 @@
 //   W  a buffer's length (2 bytes), processors (1 byte), count (8 bytes), rows: writes the set of
 //      these to a buffer whose byte i is i modulo 251, and prints refusal and digest of the buffer.
 //   V  the same, and then all of the buffer.
-use crate::{line, numbers};
+// `as` stands where a number is shown to fit, and where a `usize` is met, which has no `From`.
+use crate::digest::Digest;
+use crate::line::Line;
+use crate::numbers;
 use sheet::{Row, Set};
+use std::array;
 
 const MOST_ROWS: usize = 32;
 
-fn put_row(line: &mut [u8], end: usize, row: Row) -> usize {
-    let end = line::put_number(line, end, row.processor as u64);
-    let end = line::put_number(line, end, row.memory as u64);
-    let end = line::put_number(line, end, row.computation as u64);
-    let end = line::put_number(line, end, row.period as u64);
-    line::put_number(line, end, row.deadline as u64)
-}
+const RECORD: usize = 17;
 
-fn put_rows(line: &mut [u8], end: usize, rows: [Row; 32]) -> usize {
-    let mut at = end;
-    let mut r = 0;
-    while r < MOST_ROWS {
-        at = put_row(line, at, rows[r]);
-        r += 1;
+// What stands before the rows of a set.
+const HEAD: usize = 11;
+
+pub fn put_rows(line: &mut Line, rows: &[Row]) {
+    for row in rows {
+        line.put_numbers(&numbers::of_row(*row));
     }
-    at
 }
 
-pub fn put_reading(line: &mut [u8], end: usize, bytes: &[u8]) -> usize {
-    let reading = sheet::read(bytes);
+// Whoever is handed a function has to ask that it may be called, here and in `put_set`.
+pub fn put_reading<F: Fn(&mut Line, &[Row])>(line: &mut Line, sheet: &[u8], then: F)
+    requires { F.IsAlwaysCallable then }
+{
+    let reading = sheet::read(sheet);
     let set = reading.set;
-    let rows = set.rows;
-    let end = line::put_refusal(line, end, reading.refusal);
-    let end = line::put_number(line, end, set.processors as u64);
-    let end = line::put_number(line, end, set.count as u64);
-    line::put_digest(line, end, numbers::mix_rows(0, rows))
+    let mut digest = Digest(0);
+    digest.take_rows(&set.rows);
+    line.put_numbers(&numbers::of_answer(reading.refusal));
+    line.put_numbers(&[u64::from(set.processors), set.count as u64]);
+    line.put_digest(digest);
+    then(line, &set.rows);
 }
 
-pub fn put_fields(line: &mut [u8], end: usize, bytes: &[u8]) -> usize {
-    let end = put_reading(line, end, bytes);
-    let reading = sheet::read(bytes);
-    let set = reading.set;
-    let rows = set.rows;
-    put_rows(line, end, rows)
+pub fn put_shown(line: &mut Line, case: &[u8]) {
+    let Some((row, sheet)) = case.split_at_checked(8) else {
+        return;
+    };
+    let part = sheet::show(sheet, numbers::number_in(row) as usize);
+    line.put_number(part.len() as u64);
+    line.put_bytes(part);
+    line.put_numbers(&numbers::of_row(sheet::row_of(part)));
 }
 
-pub fn put_shown(line: &mut [u8], end: usize, case: &[u8]) -> usize {
-    if case.len() < 8 {
-        return end;
+// The rows that lie whole in the case; past them all is 0.
+fn rows_of(case: &[u8]) -> [Row; MOST_ROWS] {
+    let mut rows = [sheet::no_row(); MOST_ROWS];
+    if let Some(records) = case.get(HEAD..) {
+        for (row, record) in rows.iter_mut().zip(records.chunks_exact(RECORD)) {
+            *row = sheet::row_of(record);
+        }
     }
-    let row = numbers::number_at(case, 0, 8) as usize;
-    let part = sheet::show(&case[8..], row);
-    let end = line::put_number(line, end, part.len() as u64);
-    let end = line::put_bytes(line, end, part);
-    put_row(line, end, sheet::row_of(part))
+    rows
 }
 
-fn row_at(case: &[u8], at: usize) -> Row {
-    if case.len() < 17 {
-        return sheet::row_of(&case[..0]);
+pub fn put_set<F: Fn(&mut Line, &[u8])>(line: &mut Line, case: &[u8], then: F)
+    requires { F.IsAlwaysCallable then }
+{
+    // Bytes past the case's end count as 0.
+    let head: [u8; HEAD] = array::from_fn(|i| case.get(i).copied().unwrap_or(0));
+    let set = Set {
+        processors: head[2],
+        count: numbers::number_in(&head[3..]) as usize,
+        rows: rows_of(case),
+    };
+    let mut buffer = numbers::buffer();
+    if let Some(buffer) = buffer.get_mut(..numbers::number_in(&head[..2]) as usize) {
+        let answer = sheet::write(set, buffer);
+        line.put_numbers(&numbers::of_answer(answer));
+        line.put_digest(Digest::of(buffer));
+        then(line, buffer);
     }
-    if at > case.len() - 17 {
-        return sheet::row_of(&case[..0]);
-    }
-    let end = at + 17;
-    sheet::row_of(&case[at..end])
-}
-
-fn set_of(case: &[u8]) -> Set {
-    let mut rows = [row_at(case, 11); 32];
-    let mut r = 1;
-    while r < MOST_ROWS {
-        rows[r] = row_at(case, 11 + 17 * r);
-        r += 1;
-    }
-    Set {
-        processors: (numbers::number_at(case, 2, 1) % 256) as u8,
-        count: numbers::number_at(case, 3, 8) as usize,
-        rows: rows,
-    }
-}
-
-fn put_written(line: &mut [u8], end: usize, case: &[u8], buffer: &mut [u8], whole: bool) -> usize {
-    numbers::fill(buffer);
-    let refusal = sheet::write(set_of(case), buffer);
-    let end = line::put_refusal(line, end, refusal);
-    let end = line::put_digest(line, end, numbers::digest_of_bytes(buffer));
-    if whole {
-        return line::put_bytes(line, end, buffer);
-    }
-    end
-}
-
-fn put_buffer(line: &mut [u8], end: usize, case: &[u8], buffer: &mut [u8], whole: bool) -> usize {
-    let room = numbers::number_at(case, 0, 2) as usize;
-    if room > buffer.len() {
-        return end;
-    }
-    put_written(line, end, case, &mut buffer[..room], whole)
-}
-
-pub fn put_set(line: &mut [u8], end: usize, case: &[u8], whole: bool) -> usize {
-    let mut buffer = io::buffer();
-    put_buffer(line, end, case, &mut buffer, whole)
 }

@@ -3,57 +3,63 @@
 //      row, line, column and length of the answer, digest of the buffer, and the bytes of the line for a refusal.
 //   L  a buffer's length (2 bytes), a sheet: lists the sheet in such a buffer, and prints where the text ends, digest of the
 //      buffer, and the bytes of the text.
-use crate::{line, numbers};
-use sheet_text::Answer;
+// `as` stands where a number is shown to fit, and where a `usize` is met, which has no `From`.
+use crate::digest::Digest;
+use crate::line::Line;
+use crate::numbers;
+use sheet_text::{Answer, Refused};
 
-fn put_numbers(line: &mut [u8], end: usize, answer: Answer) -> usize {
-    let end = line::put_number(line, end, answer.number as u64);
-    let end = line::put_number(line, end, answer.row as u64);
-    let end = line::put_number(line, end, answer.line as u64);
-    let end = line::put_number(line, end, answer.column as u64);
-    line::put_number(line, end, answer.length as u64)
+// Number, row, line, column and length of an answer; what does not apply is 0.
+fn numbers_of(composed: Result<usize, Refused>) -> [u64; 5] {
+    match composed {
+        Ok(length) => [0, 0, 0, 0, length as u64],
+        Err(refused) => {
+            let answer = Answer::from(refused);
+            [
+                u64::from(answer.number),
+                answer.row as u64,
+                answer.line as u64,
+                answer.column as u64,
+                answer.length as u64,
+            ]
+        }
+    }
 }
 
-fn put_words(line: &mut [u8], end: usize, answer: Answer) -> usize {
+#[tactic(auto, unfolding(text::specs::Putting::end_after))]
+fn put_words(line: &mut Line, refused: Refused) {
     let mut words = io::buffer();
-    if answer.number == sheet::refusals::ACCEPTED {
-        return line::put_bytes(line, end, &words[..0]);
+    let stop = sheet_text::put_answer(&mut words, 0, Answer::from(refused));
+    line.put_bytes(&words[..stop]);
+}
+
+pub fn put_composed(line: &mut Line, text: &[u8], buffer: &mut [u8]) {
+    let composed = sheet_text::compose(text, buffer);
+    line.put_numbers(&numbers_of(composed));
+    line.put_digest(Digest::of(buffer));
+    match composed {
+        Ok(_) => line.put_bytes(&[]),
+        Err(refused) => put_words(line, refused),
     }
-    let stop = sheet_text::put_answer(&mut words, 0, answer);
-    line::put_bytes(line, end, &words[..stop])
 }
 
-fn put_composed(line: &mut [u8], end: usize, text: &[u8], buffer: &mut [u8]) -> usize {
-    numbers::fill(buffer);
-    let answer = sheet_text::compose(text, buffer);
-    let end = put_numbers(line, end, answer);
-    let end = line::put_digest(line, end, numbers::digest_of_bytes(buffer));
-    put_words(line, end, answer)
-}
-
-fn put_listed(line: &mut [u8], end: usize, sheet: &[u8], buffer: &mut [u8]) -> usize {
-    numbers::fill(buffer);
+#[tactic(auto, unfolding(text::specs::Putting::end_after))]
+pub fn put_listed(line: &mut Line, sheet: &[u8], buffer: &mut [u8]) {
     let stop = sheet_text::list(sheet, buffer);
-    let end = line::put_number(line, end, stop as u64);
-    let end = line::put_digest(line, end, numbers::digest_of_bytes(buffer));
-    line::put_bytes(line, end, &buffer[..stop])
+    line.put_number(stop as u64);
+    line.put_digest(Digest::of(buffer));
+    line.put_bytes(&buffer[..stop]);
 }
 
-fn put_lent(line: &mut [u8], end: usize, case: &[u8], buffer: &mut [u8], list: bool) -> usize {
-    let room = numbers::number_at(case, 0, 2) as usize;
-    if room > buffer.len() {
-        return end;
+// Whoever is handed a function has to ask that it may be called.
+pub fn put_text<F: Fn(&mut Line, &[u8], &mut [u8])>(line: &mut Line, case: &[u8], put: F)
+    requires { F.IsAlwaysCallable put }
+{
+    let Some((room, input)) = case.split_at_checked(2) else {
+        return;
+    };
+    let mut buffer = numbers::buffer();
+    if let Some(buffer) = buffer.get_mut(..numbers::number_in(room) as usize) {
+        put(line, input, buffer);
     }
-    if case.len() < 2 {
-        return end;
-    }
-    if list {
-        return put_listed(line, end, &case[2..], &mut buffer[..room]);
-    }
-    put_composed(line, end, &case[2..], &mut buffer[..room])
-}
-
-pub fn put_text(line: &mut [u8], end: usize, case: &[u8], list: bool) -> usize {
-    let mut buffer = io::buffer();
-    put_lent(line, end, case, &mut buffer, list)
 }

@@ -1,29 +1,29 @@
+use mathlib.Core.Path.{◌≡◌, ap}
+use mathlib.Core.List.{List, ◌++◌}
+use lib.ListN.{drop}
+use Rattle.std.proofs.Common.{ℕ, rules, Err}
 use Rattle.analysis.proofs.AnalysisCases.{meets_unread, meets_no_room, meets_refused, meets_accepted}
 use Rattle.analysis.proofs.analyse_reading.Goals as goal
 
-pub returns-then-refusal-ne-ACCEPTED : goal.returns-then-refusal-ne-ACCEPTED
-returns-then-refusal-ne-ACCEPTED c =
-    let both = meets_unread c.args.reading c.args.bounds.now c.if-refusal-ne-ACCEPTED.true in
-    record { value = both.0; bounds_after = both.1 }
+pub returns-in_err-reading : goal.returns-in_err-reading
+returns-in_err-reading c =
+    let z : c.from_residual.result ≡ Err c.in_err-reading.field-0.0 = search rules in
+    let both = meets_unread c.args.reading c.args.bounds.now c.requires _ c.in_err-reading.was in
+    rw z (record { value = both.0; bounds_after = both.1 })
 
 pub returns-then-bounds-n : goal.returns-then-bounds-n
 returns-then-bounds-n c =
-    let both = meets_no_room c.args.reading c.args.bounds.now c.if-refusal-ne-ACCEPTED.false c.if-bounds-n.true _ c.refuse.ensures in
+    let both = meets_no_room c.args.reading c.args.bounds.now c.requires _ c.in_ok-reading.was c.if-bounds-n.true _ c.new.ensures in
     record { value = both.0; bounds_after = both.1 }
 
-pub work-answer-requires : goal.work-answer-requires
-work-answer-requires c = c.requires c.if-refusal-ne-ACCEPTED.false
+pub returns-in_err-found : goal.returns-in_err-found
+returns-in_err-found c =
+    let z : c.from_residual-in_err-found.result ≡ Err c.in_err-found.field-0.0 = search rules in
+    let both = meets_refused c.args.reading c.args.bounds.now c.requires _ c.in_ok-reading.was c.if-bounds-n.false _ c.in_err-found.ensures in
+    rw z (record { value = both.0; bounds_after = both.1 })
 
-pub put-requires : goal.put-requires
-put-requires c = let w = c.requires c.if-refusal-ne-ACCEPTED.false in
-    (w.rows_most, c.if-bounds-n.false, c.work-answer.ensures.long)
-
-pub returns-then-verdict-eq-ACCEPTED : goal.returns-then-verdict-eq-ACCEPTED
-returns-then-verdict-eq-ACCEPTED c =
-    let both = meets_accepted c.args.reading c.args.bounds.now c.if-refusal-ne-ACCEPTED.false c.if-bounds-n.false _ _ c.work-answer.ensures c.requires c.if-verdict-eq-ACCEPTED.true _ c.put.ensures in
-    record { value = both.0; bounds_after = both.1 }
-
-pub returns-else-verdict-eq-ACCEPTED : goal.returns-else-verdict-eq-ACCEPTED
-returns-else-verdict-eq-ACCEPTED c =
-    let both = meets_refused c.args.reading c.args.bounds.now c.if-refusal-ne-ACCEPTED.false c.if-bounds-n.false _ _ c.work-answer.ensures c.if-verdict-eq-ACCEPTED.false in
+pub returns : goal.returns
+returns c =
+    let written = ap (λ (l : List ℕ). l ++ drop c.args.reading.set.count c.args.bounds.now) c.copy_from_slice.ensures.after in
+    let both = meets_accepted c.args.reading c.args.bounds.now c.requires _ c.in_ok-reading.was c.if-bounds-n.false _ c.in_ok-found.ensures _ written in
     record { value = both.0; bounds_after = both.1 }

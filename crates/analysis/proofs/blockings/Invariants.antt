@@ -3,6 +3,3 @@ use Rattle.analysis.proofs.blockings.Given as goal
 
 abbrev pub invariant-loop-j : goal.invariant-loop-j
 invariant-loop-j l = Blocked l.set l.blocked l.j
-
-abbrev pub decreases-loop-j : goal.decreases-loop-j
-decreases-loop-j l = l.j

@@ -1,11 +1,7 @@
-use Prim.Native.Nat.{◌-◌}
 use mathlib.Core.Path.{◌≡◌}
 use Rattle.sheet.specs.Ranges.{row_in, before}
 use Rattle.analysis.proofs.RowsHeld.{Rows}
 use Rattle.analysis.proofs.work.Given as goal
 
 abbrev pub invariant-loop-i : goal.invariant-loop-i
-invariant-loop-i l = Rows l.set l.weights l.periods l.leads l.bounds l.rank l.ranked l.pending l.first l.i × (l.rank ≡ before (row_in l.set) l.i)
-
-abbrev pub decreases-loop-i : goal.decreases-loop-i
-decreases-loop-i l = l.n - l.i
+invariant-loop-i l = Rows l.set l.asking l.own l.bounds l.rank l.ranked l.pending l.first l.i-counter × (l.rank ≡ before (row_in l.set) l.i-counter)

@@ -1,16 +1,9 @@
-use Prim.Native.Nat.{◌-◌, ◌≤◌}
 use mathlib.Core.Path.{◌≡◌}
 use Rattle.bench.specs.Calls.{with_calls, begin}
 use Rattle.bench_callers.proofs.bench_callers.Given as goal
 
 abbrev pub invariant-loop-call : goal.invariant-loop-call
-invariant-loop-call l = (record { state = l.state; digest = l.digest } ≡ with_calls l.releases l.round l.call (begin l.sheet)) × (l.call ≤ l.half)
-
-abbrev pub decreases-loop-call : goal.decreases-loop-call
-decreases-loop-call l = l.half - l.call
+invariant-loop-call l = record { state = l.state; digest = l.digest } ≡ with_calls l.releases l.round l.call (begin l.sheet)
 
 abbrev pub invariant-loop-call-2 : goal.invariant-loop-call-2
-invariant-loop-call-2 l = (record { state = l.state; digest = l.digest } ≡ with_calls l.releases l.round l.call (begin l.sheet)) × (l.call ≤ l.calls)
-
-abbrev pub decreases-loop-call-2 : goal.decreases-loop-call-2
-decreases-loop-call-2 l = l.calls - l.call
+invariant-loop-call-2 l = record { state = l.state; digest = l.digest } ≡ with_calls l.releases l.round l.call (begin l.sheet)

@@ -1,16 +1,10 @@
-use native.Mathlib.Omega.{arith}
-use native.Mathlib.Numerals.{towards_suc}
-use lib.ListN.{length-set}
+use Rattle.std.specs.Prelude.{◌≡◌}
+use Rattle.std.proofs.Common.{◌∙◌}
+use Rattle.sheet.specs.Writing.{word_bytes}
+use Rattle.sheet.proofs.WritingLaws as laws
 use Rattle.sheet.proofs.put_word.Goals as goal
 
-pub bounds-out-at-2 : goal.bounds-out-at-2
-bounds-out-at-2 c = simp length-set (omega arith)
-
-pub bounds-out-at-3 : goal.bounds-out-at-3
-bounds-out-at-3 c = simp length-set (omega arith)
-
-pub bounds-out-at-4 : goal.bounds-out-at-4
-bounds-out-at-4 c = simp length-set (omega arith)
-
 pub returns : goal.returns
-returns c = simp towards_suc
+returns c =
+    let e : c.copy_from_slice.new.self ≡ word_bytes c.args.x = c.copy_from_slice.ensures.after ∙ c.to_be_bytes.ensures in
+    rw e (laws.sets_mid (word_bytes c.args.x) c.args.out.now c.args.at c.requires)

@@ -1,42 +1,35 @@
-use native.Mathlib.Omega.{arith}
-use mathlib.Core.Path.{◌≡◌, sym, ap, ◌∙◌}
-use Prim.Native.Nat.{◌+◌, ◌<◌, ◌≤◌}
-use lib.ListN.{length}
+use Rattle.std.specs.Prelude.{◌≡◌, ◌+◌, ◌<◌, ◌≤◌, length}
+use Rattle.std.proofs.Common.{sym, ◌∙◌, arith}
 use Rattle.sheet.specs.Layout as layout
-use Rattle.sheet.specs.declared.Refusal.{Refusal}
 use Rattle.sheet.proofs.ReadingLaws as laws
 use Rattle.sheet.proofs.read.Goals as goal
-use Rattle.sheet.proofs.read.Goals.{then-refusal-eq-ACCEPTED, else-refusal-eq-ACCEPTED, In-loop-i, Then-refusal-eq-ACCEPTED}
+use Rattle.sheet.proofs.read.Goals.{then-is_ok, else-is_ok, In-loop-i, Then-is_ok}
 
 -- A sheet that was accepted is long enough.
-header : (c : Then-refusal-eq-ACCEPTED) → laws.Header c.args.sheet.now
+header : (c : Then-is_ok) → laws.Header c.args.sheet.now
 header c =
-    (laws.reads _ (ap (λ (r : Refusal). r.number) (sym c.check-refusal.ensures) ∙ c.if-refusal-eq-ACCEPTED.true)).head
+    (laws.accepted_reads _ _ c.check-refusal.ensures (sym c.is_ok.ensures.value ∙ c.if-is_ok.true)).head
 
 small : (c : In-loop-i) → c.loop-i.i < 32
 small c =
     omega (arith, c.loop-i.invariant.begun.few)
 
 pub bounds-sheet-3 : goal.bounds-sheet-3
-bounds-sheet-3 c = let h = (header (goal.at.bounds-sheet-3 c).Then-refusal-eq-ACCEPTED) in omega arith
+bounds-sheet-3 c = let h = header (goal.at.bounds-sheet-3 c).Then-is_ok in omega arith
 
 pub bounds-sheet-4 : goal.bounds-sheet-4
-bounds-sheet-4 c = let h = (header (goal.at.bounds-sheet-4 c).Then-refusal-eq-ACCEPTED) in omega arith
+bounds-sheet-4 c = let h = header (goal.at.bounds-sheet-4 c).Then-is_ok in omega arith
 
 pub loop-i-init : goal.loop-i-init
 loop-i-init c = let e = c.check-refusal.ensures in
-    record {
-      begun =
-          elim c.if-refusal-eq-ACCEPTED.branch [
-            | then-refusal-eq-ACCEPTED w ↦ rw (w.processors-is, w.count-is) (laws.begun_accepted _ _ e w.if-refusal-eq-ACCEPTED.true)
-            | else-refusal-eq-ACCEPTED w ↦ rw (w.processors-is, w.count-is) (laws.begun_refused _ _ e w.if-refusal-eq-ACCEPTED.false)
-          ];
-      within = omega arith;
-      stored = rw c.no_row-rows.ensures (laws.stored_none _ _ _);
-    }
-
-pub bounds-set-i : goal.bounds-set-i
-bounds-set-i c = omega (arith, small (goal.at.bounds-set-i c).In-loop-i)
+    elim c.if-is_ok.branch [
+      | then-is_ok w ↦
+          let b = laws.begun_accepted _ _ e (sym c.is_ok.ensures.value ∙ w.if-is_ok.true) in
+          rw (w.set-is, w.from.ensures, c.no_set-set.ensures) (record { begun = b; within = omega arith; stored = laws.stored_none _ _ _ })
+      | else-is_ok w ↦
+          let b = laws.begun_refused _ _ e (sym c.is_ok.ensures.value ∙ w.if-is_ok.false) in
+          rw (w.set-is, c.no_set-set.ensures) (record { begun = b; within = omega arith; stored = laws.stored_none _ _ _ })
+    ]
 
 pub loop-i-preserved : goal.loop-i-preserved
 loop-i-preserved c =
@@ -52,5 +45,5 @@ loop-i-preserved c =
 
 pub returns : goal.returns
 returns c = let g = c.loop-i.invariant in
-    let e : c.loop-i.i ≡ c.if-refusal-eq-ACCEPTED.count = omega arith in
+    let e : c.loop-i.i ≡ c.if-is_ok.set.count = omega arith in
     laws.read_as _ _ _ c.check-refusal.ensures (g.stored ∙ rw e g.begun.leads)

@@ -1,6 +1,4 @@
-use mathlib.Core.Path.{◌≡◌}
-use mathlib.Core.List.{List}
-use Prim.Native.Nat.{ℕ, ◌-◌, ◌≤◌}
+use Rattle.std.specs.Prelude.{◌≡◌, ℕ, ◌≤◌, List}
 use Rattle.sheet.specs.declared.Set.{Set}
 use Rattle.sheet.proofs.ReadingLaws as laws
 use Rattle.sheet.proofs.read.Given as goal
@@ -11,7 +9,4 @@ pub record Going (s : List ℕ) (processors count : ℕ) (set : Set) (i : ℕ) :
   pub stored : set ≡ laws.stored_to s processors count i
 
 abbrev pub invariant-loop-i : goal.invariant-loop-i
-invariant-loop-i l = Going l.sheet l.processors l.count l.set l.i
-
-abbrev pub decreases-loop-i : goal.decreases-loop-i
-decreases-loop-i l = l.count - l.i
+invariant-loop-i l = Going l.sheet l.initial.set.processors l.initial.set.count l.set l.i

@@ -1,14 +1,8 @@
-use mathlib.Core.Path.{◌≡◌}
-use mathlib.Core.List.{List}
-use Prim.Native.Nat.{ℕ, ◌-◌, ◌≤◌}
+use Rattle.std.specs.Prelude.{◌≡◌, ℕ, ◌≤◌}
 use Rattle.sheet.specs.Ranges as ranges
-use Rattle.sheet.specs.declared.Row.{Row}
 use Rattle.sheet.specs.declared.Set.{Set}
 use Rattle.sheet.proofs.Faults as faults
 use Rattle.sheet.proofs.set_refusal.Given as goal
-
-abbrev pub set_of : ℕ → ℕ → List Row → Set
-set_of processors count rows = record { processors = processors; count = count; rows = rows }
 
 -- The rows below i have no fault, and `before` is the processor of the last of them.
 pub record Going (set : Set) (before i : ℕ) : Type 0 where
@@ -18,7 +12,4 @@ pub record Going (set : Set) (before i : ℕ) : Type 0 where
   pub clear : faults.Clear (ranges.set_row_fault set) set.count i
 
 abbrev pub invariant-loop-i : goal.invariant-loop-i
-invariant-loop-i l = Going (set_of l.processors l.count l.rows) l.before l.i
-
-abbrev pub decreases-loop-i : goal.decreases-loop-i
-decreases-loop-i l = l.count - l.i
+invariant-loop-i l = Going l.set l.before l.i

@@ -1,7 +1,4 @@
-use mathlib.Core.Path.{◌≡◌}
-use mathlib.Core.List.{List}
-use Prim.Native.Nat.{ℕ, ◌-◌, ◌≤◌}
-use lib.ListN.{length, get_or}
+use Rattle.std.specs.Prelude.{◌≡◌, ℕ, ◌≤◌, List, length, get_or}
 use Rattle.sheet.specs.Layout as layout
 use Rattle.sheet.specs.Ranges as ranges
 use Rattle.sheet.specs.declared.Row.{Row}
@@ -20,7 +17,4 @@ pub record Going (count : ℕ) (rows : List Row) (begun out : List ℕ) (i : ℕ
   pub same : out ≡ laws.partly (row_of rows) begun i
 
 abbrev pub invariant-loop-i : goal.invariant-loop-i
-invariant-loop-i l = Going l.count l.rows l.initial.out l.out l.i
-
-abbrev pub decreases-loop-i : goal.decreases-loop-i
-decreases-loop-i l = l.count - l.i
+invariant-loop-i l = Going l.count l.set.rows (laws.begun l.set l.fn.out) l.out l.i

@@ -1,17 +1,17 @@
-use native.Mathlib.Omega.{arith}
-use mathlib.Core.Path.{sym, ◌∙◌}
-use Rattle.sheet_text.proofs.WordLaws as laws
+use Prim.Native.Nat.{ℕ}
+use mathlib.Core.Path.{ap, ◌∙◌}
+use lib.ListN.{length}
+use Rattle.std.proofs.Common.{Option, rules, tests}
+use Rattle.std.specs.Option.{unwrap_or}
+use Rattle.std.proofs.lemmas.Iterator.{YieldsList-from_slice}
+use Rattle.std.proofs.lemmas.Iterator.Search.{position_from_yields_List}
+use Rattle.sheet_text.specs.Words.{is_mark}
+use Rattle.sheet_text.proofs.WordLaws.{before_position}
 use Rattle.sheet_text.proofs.length_before.Goals as goal
 
-pub returns-then-is_mark : goal.returns-then-is_mark
-returns-then-is_mark c = let l = c.loop-i in
-    let h = laws.before_hit c.args.mark c.args.text.now l.i (omega arith) (sym c.is_mark.ensures ∙ c.if-is_mark.true) in
-    omega (arith, h, l.invariant.1)
-
-pub loop-i-preserved : goal.loop-i-preserved
-loop-i-preserved c = let l = c.loop-i in
-    let h = laws.before_skip c.args.mark c.args.text.now l.i (omega arith) (sym c.is_mark.ensures ∙ c.if-is_mark.false) in
-    (omega arith, omega (arith, h, l.invariant.1))
-
-pub returns : goal.returns
-returns c = omega (arith, laws.before_end c.args.mark c.args.text.now c.loop-i.i (omega arith), c.loop-i.invariant.1)
+pub returns-clause-value : goal.returns-clause-value
+returns-clause-value c =
+    let m = c.args.mark in
+    let text = c.args.text.now in
+    let first = position_from_yields_List (is_mark m) _ _ c.position.result c.position.ensures.ran (YieldsList-from_slice text cc) (λ x b q k. search (rules, tests)) in
+    c.unwrap_or.ensures ∙ ap (λ (o : Option ℕ). unwrap_or o (length text)) first ∙ before_position m text

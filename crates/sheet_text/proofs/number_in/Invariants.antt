@@ -1,4 +1,4 @@
-use Prim.Native.Nat.{ℕ, ◌-◌, ◌≤◌}
+use Prim.Native.Nat.{ℕ, ◌≤◌}
 use mathlib.Core.Path.{◌≡◌}
 use mathlib.Core.List.{List}
 use lib.ListN.{length, drop}
@@ -13,8 +13,5 @@ pub record Going (word : List ℕ) (value i : ℕ) : Type 0 where
   pub digits : spec.all_digits word ≡ spec.all_digits (drop i word)
   pub value_is : parts.capped (spec.value_of word) ≡ parts.capped (spec.value_from value (drop i word))
 
-abbrev pub invariant-loop-i : goal.invariant-loop-i
-invariant-loop-i l = Going l.word l.value l.i
-
-abbrev pub decreases-loop-i : goal.decreases-loop-i
-decreases-loop-i l = length l.word - l.i
+abbrev pub invariant-loop-byte : goal.invariant-loop-byte
+invariant-loop-byte l = Going l.word l.value l.byte-index
