@@ -30,7 +30,8 @@ impl Entry {
         lead: 0,
     };
 
-    // Among the higher rows of its own processor.
+    // Among the higher rows of its own processor. Only `work` and `Equations` call this and what follows, and show what it asks: the
+    // module is the crate's own.
     pub fn higher(row: Row) -> Entry
         requires { Fit row 0 }
         ensures { (x : ℕ) → entry_term x result ≡ asked_with length_of row x }

@@ -91,7 +91,8 @@ impl<'a> Text<'a> {
         self.put_field(u64::from(refusal.instance), b'\n');
     }
 
-    // A line for each number below the count, in turn.
+    // A line for each number below the count, in turn. It asks that `put_line` may be called: in this language whoever is handed a
+    // function has to ask so.
     pub fn put_lines<F: Fn(&mut Text, usize)>(&mut self, count: usize, put_line: F)
         requires { (i : ℕ) (text : _) → i < count → F.pre put_line text i }
         ensures { (line_of : ℕ → List ℕ) → EachAdds (F.post put_line) line_of count

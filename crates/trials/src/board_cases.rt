@@ -180,6 +180,7 @@ fn length_of(letter: u8) -> usize {
     }
 }
 
+// It asks that `tell` may be called, as whoever is handed a function has to.
 pub fn put_play<F: Fn(&mut Line, &[u64])>(line: &mut Line, case: &[u8], tell: F)
     requires { F.IsAlwaysCallable tell }
 {
