@@ -83,13 +83,13 @@ module _ (ranked higher : List Entry) (row : Row) (blocked : ℕ) where
     instance_known : Instance (entry_equations ranked higher row blocked) turn.length q
     instance_known = instance_exists _ (held_lawful fit) turn.length turn.found q turn.below
 
-    start_warm : Warm (climb_at ranked higher (blocked + q * length_of row)) x
+    pub start_warm : Warm (climb_at ranked higher (blocked + q * length_of row)) x
     unfolding start
     start_warm =
         subst (λ (F : ℕ → ℕ). Warm F x) (start_climb q)
         (record { exists = instance_known.starts; under = turn.under; rises = turn.rises })
 
-    start_solved : solution (climb_at ranked higher (blocked + q * length_of row)) ≡ start (entry_equations ranked higher row blocked) q
+    pub start_solved : solution (climb_at ranked higher (blocked + q * length_of row)) ≡ start (entry_equations ranked higher row blocked) q
     unfolding start
     start_solved = ap solution (sym (start_climb q))
 

@@ -3,7 +3,7 @@ use Prim.Native.Nat.{ℕ, zero, suc, ◌+◌, ◌-◌, ◌*◌, ◌≤◌, ◌<�
 use mathlib.Core.Path.{◌≡◌, sym, ap, ◌∙◌}
 use native.Mathlib.Omega.{arith}
 use native.Mathlib.Decide.{dec_le}
-use native.Mathlib.Nat.{mul-le-mul_right, suc-mul, one-mul}
+use native.Mathlib.Nat.{le-mul_of_pos_right, mul-le-mul_right, suc-mul, one-mul}
 use Rattle.std.specs.Prelude.{Option}
 use Rattle.std.specs.Prelude.{Some}
 use Rattle.laws.specs.Rounding.{up}
@@ -54,6 +54,9 @@ module _ (k : Equations) (lawful : Lawful k) where
     pub busy_solves : Solves (busy_at k) limit 1 L
     unfolding busy_length
     busy_solves = least_at (busy_at k) limit 1 L found
+
+    pub instances_most : instances_in k L ≤ L
+    instances_most = up_le L k.period L lawful.some_period (le-mul_of_pos_right L lawful.some_period)
 
     pub some_instance : 1 ≤ instances_in k L
     some_instance = up_pos L k.period lawful.some_period busy_solves.from

@@ -7,7 +7,7 @@ use native.Mathlib.Omega.{arith}
 use native.Mathlib.Numerals.{add-one}
 use native.Mathlib.Decide.{ℕ_discrete, dec_le}
 use lib.Dec.{eqb, ltb}
-use lib.ListN.{length, set as store, take, replicate, length-set, length-replicate}
+use lib.ListN.{length, set as store, take, length-set}
 use lib.Seq.{get_or-set_same, get_or-set_other, get_or-take, take-suc-set}
 use borrow.Author.Tests.{eq-eqb, ne_eqb, lt-ltb, le-ltb}
 use Rattle.laws.specs.Sums.{sum_to}
@@ -53,15 +53,16 @@ no_entries : (l : List Entry) (x : ℕ) → entry_sum (take 0 l) x ≡ 0
 unfolding entry_sum
 no_entries l x = refl
 
-pub rows_first : (set : Set) (asking own_rows : List Entry) → length asking ≡ places → length own_rows ≡ places → Rows set asking own_rows (replicate places 0) 0 0 0 0 0
+pub rows_first : (set : Set) (asking own_rows : List Entry) (bounds : List ℕ) → length asking ≡ places → length own_rows ≡ places → length bounds ≡ places
+    → Rows set asking own_rows bounds 0 0 0 0 0
 unfolding worked
-rows_first set asking own_rows a o =
+rows_first set asking own_rows bounds a o b =
     record {
       within = omega arith;
       from = omega arith;
       long_asking = a;
       long_own = o;
-      long = length-replicate {A = ℕ} places 0;
+      long = b;
       outcome = refl;
       outrank = λ j h. absurd (omega (arith, h));
       same = λ j h l. absurd (omega (arith, l));

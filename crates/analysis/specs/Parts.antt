@@ -1,5 +1,5 @@
 -- What this crate's own functions ask of one another; only their contracts cite it.
-use Rattle.std.specs.Prelude.{ℕ, ◌≤◌, ◌<◌, ◌≡◌, List, length, get_or, take, Some, Result, Ok, Err}
+use Rattle.std.specs.Prelude.{⊤, ℕ, ◌≤◌, ◌<◌, ◌≡◌, List, length, get_or, take, Some, Result, Ok, Err}
 use Rattle.laws.specs.Least.{least}
 use Rattle.sheet.specs.declared.Set.{Set}
 use Rattle.sheet.specs.declared.Refusal.{Refusal}
@@ -48,9 +48,9 @@ pub record Refuses (set : Set) (refusal : Refusal) : Type 0 where
   pub refusal_is : refusal ≡ refusal_of (analyse_set set)
   pub some : refusal.number ≡ 0 → ⊥
 
-abbrev pub Answers : Set → Result (List ℕ) Refusal → Type 0
-Answers set (Ok bounds) = Accepts set bounds
-Answers set (Err refusal) = Refuses set refusal
+abbrev pub Answers : Set → List ℕ → Result ⊤ Refusal → Type 0
+Answers set bounds (Ok nothing) = Accepts set bounds
+Answers set bounds (Err refusal) = Refuses set refusal
 
 -- What the analysis needs of a reading: an error carries a number, and where it is accepted, its set is well-formed.
 pub record WellRead (reading : Reading) : Type 0 where

@@ -63,13 +63,13 @@ fn blockings(set: Set) -> [u32; 32]
     blocked
 }
 
-// The rows in order. Where a row's processor is another than the one before, all rows so far outrank it.
-fn work(set: Set) -> Result<[u32; 32], Refusal>
+// The rows in order. Where a row's processor is another than the one before, all rows so far outrank it. The bounds go into an array
+// that is lent: a `Result` with the array in it is copied in many pieces.
+fn work(set: Set, bounds: &mut [u32; 32]) -> Result<(), Refusal>
     requires { WellFormed set }
-    ensures { Answers set result }
+    ensures { Answers set bounds.new result }
 {
     let blocked = blockings(set);
-    let mut bounds = [0; 32];
     // The higher rows of the own processor, and the rows that ask for memory: the first `ranked` of these outrank it, and
     // the first `pending` the processors to come. There is no heap, so they are arrays with those numbers beside.
     let mut own = [Entry::NONE; 32];
@@ -99,7 +99,7 @@ fn work(set: Set) -> Result<[u32; 32], Refusal>
             pending += 1;
         }
     }
-    Ok(bounds)
+    Ok(())
 }
 
 // What was read, then 12, then the rows in order, each 10 before 11; a refusal writes nothing.
@@ -114,7 +114,8 @@ fn analyse_reading(reading: Reading, bounds: &mut [u32]) -> Result<(), Refusal>
     if bounds.len() < n {
         return Err(Refusal::new(Reason::Room, 0));
     }
-    let found = work(set)?;
+    let mut found = [0; 32];
+    work(set, &mut found)?;
     bounds[..n].copy_from_slice(&found[..n]);
     Ok(())
 }

@@ -3,7 +3,7 @@ use Prim.Native.Nat.{ℕ, ◌+◌, ◌-◌, ◌≤◌, ◌<◌}
 use mathlib.Core.Path.{◌≡◌, refl, sym, ap, ◌∙◌}
 use mathlib.Core.Bool.{Bool, true, false, ◌&&◌}
 use mathlib.Core.List.{List}
-use borrow.Author.Tests.{lt-ltb, le-ltb, lt-leb, le-leb, ne_eqb}
+use borrow.Author.Tests.{lt-ltb, le-ltb, lt-leb, le-leb, eq-eqb, ne_eqb}
 use native.Mathlib.Omega.{arith}
 use native.Mathlib.Decide.{ℕ_discrete, dec_lt}
 use lib.ListN.{length, get_or, set, length-set, replicate, length-replicate, get_or-replicate}
@@ -12,13 +12,14 @@ use lib.Dec.{eqb, ltb}
 use Rattle.laws.specs.Choice.{pick, first_of}
 use Rattle.laws.specs.ChoiceLaws.{pick_false}
 use Rattle.laws.specs.TabulateLaws.{set_tab}
-use Rattle.sheet.specs.Refusals.{STATE, ROW, refused, accepted, answered}
+use Rattle.sheet.specs.declared.Reading.{Reading}
+use Rattle.sheet.specs.Refusals.{STATE, ROW, refused, accepted, answered, carried}
 use Rattle.sheet.specs.Ranges.{most_rows, zero_set}
 use Rattle.board.specs.declared.Job.{Job}
 use Rattle.board.specs.declared.State.{State}
 use Rattle.board.specs.States.{no_job, row_at, job_at, start_set, zero_state}
 use Rattle.board.specs.Shape.{shape_ok}
-use Rattle.board.specs.Calls.{is_early, release_table, release_number, waiting_from, released, release_of}
+use Rattle.board.specs.Calls.{is_early, release_table, release_number, waiting_from, released, start_reading, release_of}
 
 -- A job stored where it stands already.
 pub stored_again : (job : Job) (i : ℕ) → i < most_rows → set (replicate most_rows job) i job ≡ replicate most_rows job
@@ -35,6 +36,15 @@ stored_again job i l = ext_get_or no_job _ _ (length-set (replicate most_rows jo
 pub start_zero : start_set zero_set ≡ zero_state
 unfolding start_set zero_state
 start_zero = refl
+
+-- A start from what was read, or from what could not be.
+pub start_read : (r : Reading) → (carried r.refusal).number ≡ 0 → record { state = start_set r.set; refusal = r.refusal } ≡ start_reading r
+unfolding start_reading
+start_read r e = rw (eq-eqb (carried r.refusal).number 0 e)
+
+pub start_unread : (r : Reading) → ((carried r.refusal).number ≡ 0 → ⊥) → record { state = zero_state; refusal = r.refusal } ≡ start_reading r
+unfolding start_reading
+start_unread r n = rw (ne_eqb (carried r.refusal).number 0 n)
 
 -- Less than T ticks ago, by the difference that the code takes.
 pub early_is : (clock period : ℕ) (job : Job) → job.last ≤ clock → is_early clock period job ≡ (job.ever && ltb (clock - job.last) period)

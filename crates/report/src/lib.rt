@@ -1,13 +1,19 @@
 // What is printed for a sheet: its bounds, or the refusal.
 #![tactic(auto)]
 
-ghost use Rattle.std.specs.Prelude.{◌≤◌};
-ghost use Rattle.sheet.specs.Ranges.{most_rows};
+ghost use Rattle.sheet.specs.Ranges.{row_in};
 ghost use Rattle.text.specs.Putting.{Puts, Adds};
-ghost use Rattle.report.specs.Report.{row_line, accepted_text, report_of};
+ghost use Rattle.report.specs.Report.{row_line, line_of, accepted_text, report_of};
 
 use sheet::{MOST_ROWS, Row, Set};
-use text::Text;
+use text::{PutLine, Text};
+
+// The rows of a set with their bounds, which stand beside the rows: `analysis::analyse` puts them into a lent buffer of their own.
+#[derive(Clone, Copy)]
+struct Bounded<'a> {
+    set: &'a Set,
+    bounds: &'a [u32; MOST_ROWS],
+}
 
 fn put_row(text: &mut Text, i: usize, row: Row, bound: u32)
     ensures { Adds (row_line i row bound) text.old text.new }
@@ -19,18 +25,25 @@ fn put_row(text: &mut Text, i: usize, row: Row, bound: u32)
     text.put_field(u64::from(row.deadline), b'\n');
 }
 
-// The bounds stand beside the rows, not in them: `analysis::analyse` puts them into a lent buffer of their own.
+// Past the rows it is the line of none, so that every number has one.
+impl PutLine for Bounded<'_> {
+    ghost line_of = { λ bounded i. line_of (row_in bounded.set.now) bounded.bounds.now i };
+
+    fn put_line(&self, text: &mut Text, i: usize) {
+        let Bounded { set, bounds } = self;
+        let row = set.rows.get(i).copied().unwrap_or_default();
+        let bound = bounds.get(i).copied().unwrap_or_default();
+        put_row(text, i, row, bound);
+    }
+}
+
 fn put_accepted(text: &mut Text, set: Set, bounds: &[u32; MOST_ROWS])
-    requires { set.count ≤ most_rows }
     ensures { Adds (accepted_text set bounds.now) text.old text.new }
 {
     text.put(b"accepted ");
     text.put_field(set.count as u64, b'\n');
     text.put(b"row processor bound deadline\n");
-    text.put_lines(
-        set.count,
-        |text, i| put_row(text, i, set.rows[i], bounds[i]),
-    );
+    text.put_lines(set.count, &Bounded { set: &set, bounds });
 }
 
 fn put_report(text: &mut Text, sheet: &[u8])

@@ -21,9 +21,10 @@ use Rattle.sheet_text.specs.Parts.{number_at, said_numbers, said_first, SaysNext
 use Rattle.sheet_text.specs.Meaning.{Numbers, row_of_numbers, numbers_fault, left_after, value_at, most_numbers, faulty_numbers, numbers_said}
 use Rattle.sheet_text.specs.declared.faults.Fault as found
 use Rattle.sheet_text.specs.declared.Word.{Word}
+use Rattle.sheet_text.specs.declared.Mark.TheVariants.{Visible}
 use Rattle.std.proofs.Common.{Ok, Err}
 use Rattle.sheet_text.proofs.FaultLaws.{number_high, unless_faulty, unless_clear}
-use Rattle.sheet_text.proofs.WordLaws.{word_end_lem}
+use Rattle.sheet_text.proofs.WordLaws.{before_short, word_end_lem}
 
 -- A word that is a number, and fits.
 number_fits : (most : ℕ) (w : List ℕ) → number_fault most w ≡ 0 → value_of w ≤ most
@@ -50,6 +51,14 @@ field_said_lem most left field e z = go (has_word left) refl
         let v : field.value ≡ value_of (word_of left) = ap (λ (f : Field). f.value) s ∙ pick_true _ _ _ (eq-eqb (number_fault most (word_of left)) 0 n) in
         record { stop_is = ap (λ (f : Field). f.stop) s; value_is = v; fits = omega (arith, v, number_fits most (word_of left) n) }
     go false h = absurd (omega (arith, z, ap (λ (f : Field). f.fault) (same false h)))
+
+pub field_place : (most : ℕ) (left : List ℕ) → (field_said most left).place ≤ length left
+unfolding field_said
+field_place most left = go (has_word left)
+  where
+    go : (b : Bool) → (pick {A = Field} b (record { fault = (number_said most (word_of left)).fault; place = blanks_of left; stop = word_end left; value = (number_said most (word_of left)).value }) (record { fault = 35; place = 0; stop = 0; value = 0 })).place ≤ length left
+    go true = before_short Visible left
+    go false = omega arith
 
 -- Number k of `count`, where `left` begins at a column of the line.
 module _ (count k line column : ℕ) (left : List ℕ) (field : Field) (h : k < count) (e : field ≡ field_said (number_limit k) left) where
@@ -114,7 +123,7 @@ module _ {count line : ℕ} {content : List ℕ} {place : ℕ} where
         said : Said (number_limit k) (drop at content) (field_said most (drop at content))
         said = field_said_lem (number_limit k) (drop at content) (field_said most (drop at content)) here e.0
 
-        taken_within : word.stop ≤ length content
+        pub taken_within : word.stop ≤ length content
         taken_within = omega (arith, e.2, said.stop_is, word_end_lem (drop at content), length-drop at content, t.inside)
 
         pub taken_more : Taken count line content place (set values k word.value) word.stop (k + 1)
@@ -162,7 +171,7 @@ first_fits n line column left z =
     omega (arith, s.value_is, s.fits)
 
 -- The first number of a line is a byte.
-first_byte : (n line column : ℕ) (left : List ℕ) → get_or (numbers_said (suc n) line column left).values 0 0 ≤ 255
+pub first_byte : (n line column : ℕ) (left : List ℕ) → get_or (numbers_said (suc n) line column left).values 0 0 ≤ 255
 first_byte n line column left = go (ℕ_discrete (numbers_fault (suc n) 0 line column left).number 0)
   where
     f : Fault

@@ -2,17 +2,17 @@
 #![tactic(auto)]
 
 ghost use Rattle.std.specs.Prelude.{◌≡◌, ◌+◌, ◌≤◌, length, drop, IfErr};
-ghost use Rattle.sheet.specs.Ranges.{most_rows};
+ghost use Rattle.sheet.specs.Ranges.{row_in};
 ghost use Rattle.text.specs.Putting.{Puts, Adds};
 ghost use Rattle.sheet_text.specs.Faults.{number_of, numbered, fault_at};
 ghost use Rattle.sheet_text.specs.Words.{is_blank, is_mark, bytes_before, has_word, number_said, field_said, number_limit};
 ghost use Rattle.sheet_text.specs.Meaning.{numbers_said, first_line_said, row_said, rows_meant, meaning_of};
 ghost use Rattle.sheet_text.specs.Parts.{said_number, said_numbers, said_first, said_row, said_meaning, SaysNext, Cuts, lines_left, Finds};
 ghost use Rattle.sheet_text.specs.Composing.{refused_answer, said_answer, compose_answer, RefusedFor, composed, reason, answer_line};
-ghost use Rattle.sheet_text.specs.Listing.{row_text, listing, listed};
+ghost use Rattle.sheet_text.specs.Listing.{row_text, row_text_of, listing, listed};
 
 use sheet::{HEADER_BYTES, MOST_ROWS, RECORD_BYTES, Refusal, Row, Set};
-use text::Text;
+use text::{PutLine, Text};
 
 mod faults;
 mod lines;
@@ -375,14 +375,29 @@ fn put_row(text: &mut Text, row: Row)
     text.put_field(u64::from(row.deadline), b'\n');
 }
 
+// The rows of a set.
+#[derive(Clone, Copy)]
+struct Rows<'a> {
+    set: &'a Set,
+}
+
+// Past the rows it is the line of none, so that every number has one.
+impl PutLine for Rows<'_> {
+    ghost line_of = { λ rows i. row_text_of (row_in rows.set.now) i };
+
+    fn put_line(&self, text: &mut Text, i: usize) {
+        let set = self.set;
+        put_row(text, set.rows.get(i).copied().unwrap_or_default());
+    }
+}
+
 fn put_set(text: &mut Text, set: Set)
-    requires { set.count ≤ most_rows }
     ensures { Adds (listing set) text.old text.new }
 {
     text.put(b"processors ");
     text.put_field(u64::from(set.processors), b'\n');
     text.put(b"# processor memory computation period deadline\n");
-    text.put_lines(set.count, |text, i| put_row(text, set.rows[i]));
+    text.put_lines(set.count, &Rows { set: &set });
 }
 
 fn put_listed(text: &mut Text, sheet: &[u8])

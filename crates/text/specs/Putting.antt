@@ -1,5 +1,5 @@
 -- Text put into a buffer from a place on. What no longer fits is left out.
-use Rattle.std.specs.Prelude.{ℕ, ◌+◌, ◌-◌, min, ◌≡◌, ◌<◌, List, ◌++◌, length, take, drop}
+use Rattle.std.specs.Prelude.{ℕ, ◌+◌, ◌-◌, min, ◌≡◌, List, ◌++◌, length, take, drop}
 use Rattle.std.specs.Borrow.{MutBor}
 use Rattle.text.specs.declared.Text.{Text}
 
@@ -26,7 +26,3 @@ pub record Begins (buffer : MutBor (List ℕ)) (end : ℕ) (text : Text) : Type 
 pub record Adds (more : List ℕ) (before after : Text) : Type 0 where
   pub same_buffer : after.buffer.ghost_name ≡ before.buffer.ghost_name
   pub puts : Puts more before.buffer.now before.end after.buffer.now after.end
-
--- Each call at a number below the count adds that number's line; `call` says what a text may become by it.
-abbrev pub EachAdds : (MutBor Text → ℕ → Unit {0} → MutBor Text → Type 0) → (ℕ → List ℕ) → ℕ → Type 0
-EachAdds call line_of count = (i : ℕ) (text left : MutBor Text) → i < count → call text i tt left → Adds (line_of i) text.now left.now

@@ -2,13 +2,21 @@
 // `Result`, and nothing here can fail.
 #![tactic(auto)]
 
-ghost use Rattle.std.specs.Prelude.{◌≡◌, ℕ, ◌<◌, List, [], ◌∷◌, ◌++◌, take};
+ghost use Rattle.std.specs.Prelude.{◌≡◌, ℕ, List, [], ◌∷◌, ◌++◌, take};
 ghost use Rattle.text.specs.Decimal.{decimal};
 ghost use Rattle.text.specs.Lines.{lines_to};
-ghost use Rattle.text.specs.Putting.{Begins, Adds, EachAdds};
+ghost use Rattle.text.specs.Putting.{Begins, Adds};
 ghost use Rattle.text.specs.Refusing.{refused_line};
 
 const MOST_DIGITS: usize = 20;
+
+// What has a line for every number. It is a trait and no closure: whoever is handed a closure has to ask that it may be called.
+pub trait PutLine {
+    ghost line_of: { Self → ℕ → List ℕ };
+
+    fn put_line(&self, text: &mut Text, i: usize)
+        ensures { Adds (line_of self.now i) text.old text.new };
+}
 
 // A lent buffer, and where the text in it so far ends.
 #[derive(Drop)]
@@ -39,7 +47,8 @@ impl<'a> Text<'a> {
 
     // What stands before the end; all of the buffer where the end lies past it.
     pub fn written(&self) -> &[u8]
-        ensures { result.now ≡ take self.now.end self.now.buffer.now }
+        ensures there { result.ref_ptr ≡ self.now.buffer.ref_ptr }
+        ensures bytes { result.now ≡ take self.now.end self.now.buffer.now }
     {
         &self.buffer[..self.end.min(self.buffer.len())]
     }
@@ -91,15 +100,12 @@ impl<'a> Text<'a> {
         self.put_field(u64::from(refusal.instance), b'\n');
     }
 
-    // A line for each number below the count, in turn. It asks that `put_line` may be called: in this language whoever is handed a
-    // function has to ask so.
-    pub fn put_lines<F: Fn(&mut Text, usize)>(&mut self, count: usize, put_line: F)
-        requires { (i : ℕ) (text : _) → i < count → F.pre put_line text i }
-        ensures { (line_of : ℕ → List ℕ) → EachAdds (F.post put_line) line_of count
-            → Adds (lines_to line_of count) self.old self.new }
+    // The line of each number below the count, in turn.
+    pub fn put_lines<L: PutLine>(&mut self, count: usize, lines: &L)
+        ensures { Adds (lines_to (L.line_of lines.now) count) self.old self.new }
     {
         for i in 0..count {
-            put_line(self, i);
+            lines.put_line(self, i);
         }
     }
 }

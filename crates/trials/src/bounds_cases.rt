@@ -3,13 +3,17 @@
 //      place i holds 4,000,000,000 + i, and prints refusal and digest of the places.
 //   B  the same, and then all the places.
 // `as` stands where a number is shown to fit, and where a `usize` is met, which has no `From`.
+ghost use Rattle.std.specs.Prelude.{◌≡◌, length};
+
 use crate::digest::Digest;
 use crate::line::Line;
 use crate::numbers;
 use std::array;
 
 // The places lent are the first of these.
-fn all_places() -> [u32; 64] {
+fn all_places() -> [u32; 64]
+    ensures { 64 ≡ length result }
+{
     array::from_fn(|i| 4000000000 + i as u32)
 }
 

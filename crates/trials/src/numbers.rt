@@ -1,8 +1,7 @@
-// Numbers out of a case's bytes, the numbers that say an answer and a row, and the buffers that are lent.
+// Numbers out of a case's bytes, the numbers that say an answer and a row, and what a lent buffer holds.
 // `as` stands where a number is shown to fit, and where a `usize` is met, which has no `From`.
 
 use sheet::{Refusal, Row};
-use std::array;
 
 // The big-endian number in the bytes.
 pub fn number_in(bytes: &[u8]) -> u64 {
@@ -35,6 +34,8 @@ pub fn of_row(row: Row) -> [u64; 5] {
 }
 
 // A buffer to be written to: no byte is like its neighbours, so that one out of place shows.
-pub fn buffer() -> [u8; 4096] {
-    array::from_fn(|i| (i % 251) as u8)
+pub fn fill(buffer: &mut [u8]) {
+    for (i, byte) in buffer.iter_mut().enumerate() {
+        *byte = (i % 251) as u8;
+    }
 }

@@ -70,8 +70,9 @@ pub fn put_set<F: Fn(&mut Line, &[u8])>(line: &mut Line, case: &[u8], then: F)
         count: numbers::number_in(&head[3..]) as usize,
         rows: rows_of(case),
     };
-    let mut buffer = numbers::buffer();
+    let mut buffer = io::buffer();
     if let Some(buffer) = buffer.get_mut(..numbers::number_in(&head[..2]) as usize) {
+        numbers::fill(buffer);
         let answer = sheet::write(set, buffer);
         line.put_numbers(&numbers::of_answer(answer));
         line.put_digest(Digest::of(buffer));

@@ -58,8 +58,9 @@ pub fn put_text<F: Fn(&mut Line, &[u8], &mut [u8])>(line: &mut Line, case: &[u8]
     let Some((room, input)) = case.split_at_checked(2) else {
         return;
     };
-    let mut buffer = numbers::buffer();
+    let mut buffer = io::buffer();
     if let Some(buffer) = buffer.get_mut(..numbers::number_in(room) as usize) {
+        numbers::fill(buffer);
         put(line, input, buffer);
     }
 }

@@ -16,14 +16,14 @@ returns-then-bounds-n c =
     let both = meets_no_room c.args.reading c.args.bounds.now c.requires _ c.in_ok-reading.was c.if-bounds-n.true _ c.new.ensures in
     record { value = both.0; bounds_after = both.1 }
 
-pub returns-in_err-found : goal.returns-in_err-found
-returns-in_err-found c =
-    let z : c.from_residual-in_err-found.result ≡ Err c.in_err-found.field-0.0 = search rules in
-    let both = meets_refused c.args.reading c.args.bounds.now c.requires _ c.in_ok-reading.was c.if-bounds-n.false _ c.in_err-found.ensures in
+pub returns-in_err-work : goal.returns-in_err-work
+returns-in_err-work c =
+    let z : c.from_residual-in_err-work.result ≡ Err c.in_err-work.field-0.0 = search rules in
+    let both = meets_refused c.args.reading c.args.bounds.now c.requires _ c.in_ok-reading.was c.if-bounds-n.false _ c.in_err-work.ensures in
     rw z (record { value = both.0; bounds_after = both.1 })
 
 pub returns : goal.returns
 returns c =
     let written = ap (λ (l : List ℕ). l ++ drop c.args.reading.set.count c.args.bounds.now) c.copy_from_slice.ensures.after in
-    let both = meets_accepted c.args.reading c.args.bounds.now c.requires _ c.in_ok-reading.was c.if-bounds-n.false _ c.in_ok-found.ensures _ written in
+    let both = meets_accepted c.args.reading c.args.bounds.now c.requires _ c.in_ok-reading.was c.if-bounds-n.false _ c.in_ok-work.ensures _ written in
     record { value = both.0; bounds_after = both.1 }

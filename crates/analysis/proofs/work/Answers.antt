@@ -1,5 +1,6 @@
 use Prim.Native.Nat.{ℕ, ◌-◌}
 use mathlib.Core.Path.{◌≡◌, refl, sym, ap, ◌∙◌}
+use mathlib.Core.List.{List}
 use native.Mathlib.Omega.{arith}
 use native.Mathlib.Numerals.{add-one}
 use lib.ListN.{take, length-take}
@@ -48,7 +49,7 @@ asks c =
     ]
 
 pub loop-i-init : goal.loop-i-init
-loop-i-init c = (rows_first _ _ _ refl refl, refl)
+loop-i-init c = (rows_first _ _ _ _ refl refl (search rules), refl)
 
 pub invariant_of-equations : goal.invariant_of-equations
 invariant_of-equations c =
@@ -60,11 +61,11 @@ invariant_of-equations c =
 
 -- the refusal of a row that has no bound
 refused : (c : After-from_residual) → ((fault : Fault) → c.verdict.result ≡ Err fault → Refuses c.args.set (refusal_of (fault_at c.loop-i.i-counter fault)))
-    → (v : Result ℕ Fault) → c.verdict.result ≡ v → Answers c.args.set c.from_residual.result
-refused c says (Ok r) e =
+    → (v : Result ℕ Fault) → c.verdict.result ≡ v → (bounds : List ℕ) → Answers c.args.set bounds c.from_residual.result
+refused c says (Ok r) e bounds =
     let z : c.map_err.result ≡ Ok r = search rules in
     absurd (search rules)
-refused c says (Err fault) e =
+refused c says (Err fault) e bounds =
     let z : c.from_residual.result ≡ Err (refusal_of (fault_at c.loop-i.i-counter fault)) = search rules in
     rw z (says fault e)
 
@@ -72,7 +73,7 @@ pub returns-in_err-bound : goal.returns-in_err-bound
 returns-in_err-bound c =
     refused c
     (λ fault e. answer_fault _ c.requires _ _ _ _ _ _ _ (turn (goal.at.returns-in_err-bound c).Joined-row-rank) c.loop-i-test.true fault _ refl (sym (judged (goal.at.returns-in_err-bound c).After-verdict) ∙ e))
-    c.verdict.result refl
+    c.verdict.result refl _
 
 pub ranked-requires : goal.ranked-requires
 ranked-requires c =

@@ -1,11 +1,5 @@
-use mathlib.Core.Path.{ap}
-use Rattle.sheet.specs.declared.Reading.{Reading}
-use Rattle.sheet.proofs.ReadingLaws.{rows_most}
 use Rattle.report.proofs.ReportLaws.{report_refused, report_accepted}
 use Rattle.report.proofs.put_report.Goals as goal
-
-pub put_accepted-requires : goal.put_accepted-requires
-put_accepted-requires c = rw (ap (λ (r : Reading). r.set.count) c.read.ensures) (rows_most _)
 
 pub returns-in-Ok : goal.returns-in-Ok
 returns-in-Ok c =
