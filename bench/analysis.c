@@ -1,4 +1,4 @@
-/* The analysis in plain C: the same algorithm on the same columns. It is compiled three times: as it stands, over a set by value;
+/* The analysis in plain C: the same algorithm on the same numbers, in columns. It is compiled three times: as it stands, over a set by value;
    with COUNT, which counts what it does; and with NO_SET, where the rows are read straight into an array that nobody copies or
    clears, which is the fastest way that we know for small sheets. */
 #include "plain.h"
